@@ -1,0 +1,5 @@
+pub mod Powers
+pub mod Moduli
+pub mod Rounding
+pub mod Digits
+pub mod Gadgets
