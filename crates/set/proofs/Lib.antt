@@ -1,0 +1,4 @@
+pub mod Limits
+pub mod Products
+pub mod Sums
+pub mod Rules
