@@ -1,0 +1,2 @@
+// The worked cases, which the definitions satisfy, and tests on examples.
+pub mod worked;
