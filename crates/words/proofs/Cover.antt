@@ -10,7 +10,9 @@ use lib.Signed.{_≤ℤ_, _<ℤ_}
 use Rattle.std.specs.shelf.Lists.{All}
 use Rattle.std.proofs.shelf.Signed.{ints}
 use Rattle.std.proofs.shelf.Bits.{pow-pos}
-use Rattle.words.specs.Digits.{centredOf, floorOf, digitOf, restOf, digitsOf, valueOf, scaledOf, splitOf}
+use Rattle.algebra.specs.Ints.{floorZ}
+use Rattle.algebra.specs.Digits.{digitOf, restOf}
+use Rattle.words.specs.Digits.{centredOf, digitsOf, valueOf, scaledOf, splitOf}
 use Rattle.words.specs.Gadgets.{Within, SplitRight, Centred}
 use Rattle.words.proofs.Floors.{floor-is, cancel-lt}
 use Rattle.words.proofs.Steps.{base-even}
@@ -23,13 +25,13 @@ digits-value B zero u = omega (arith, ints)
 digits-value B (suc k) u = rw (digits-value B k (restOf B u)) (omega (arith, ints))
 
 -- a quotient is as small as what is divided
-pub floor-bound : (P G H : ℕ) (v : ℤ) → G < P → natAbs v ≤ P * H → natAbs (floorOf (v +ℤ pos G) P) ≤ H
+pub floor-bound : (P G H : ℕ) (v : ℤ) → G < P → natAbs v ≤ P * H → natAbs (floorZ (v +ℤ pos G) P) ≤ H
 floor-bound P G H v g h =
     let f = floor-is (v +ℤ pos G) P (omega arith) in
-    let a : (pos P *ℤ floorOf (v +ℤ pos G) P) <ℤ (pos P *ℤ pos (suc H)) = omega (arith, ints) in
-    let b : (pos P *ℤ negsuc H) <ℤ (pos P *ℤ floorOf (v +ℤ pos G) P) = omega (arith, ints) in
-    let c : floorOf (v +ℤ pos G) P <ℤ pos (suc H) = cancel-lt P _ _ a in
-    let d : negsuc H <ℤ floorOf (v +ℤ pos G) P = cancel-lt P _ _ b in
+    let a : (pos P *ℤ floorZ (v +ℤ pos G) P) <ℤ (pos P *ℤ pos (suc H)) = omega (arith, ints) in
+    let b : (pos P *ℤ negsuc H) <ℤ (pos P *ℤ floorZ (v +ℤ pos G) P) = omega (arith, ints) in
+    let c : floorZ (v +ℤ pos G) P <ℤ pos (suc H) = cancel-lt P _ _ a in
+    let d : negsuc H <ℤ floorZ (v +ℤ pos G) P = cancel-lt P _ _ b in
     omega (arith, ints)
 
 within-of : (z : ℤ) (b : ℕ) → natAbs z ≤ b → Within b z
@@ -66,7 +68,7 @@ part-even : (s : ℕ) → (2 ^ s ≡ 1) ⊎ (2 ^ s ≡ 2 * (2 ^ s / 2))
 part-even zero = inl refl
 part-even (suc s) = inr (base-even (suc s) (omega arith))
 
-near-of : (P : ℕ) (v : ℤ) → 0 < P → (P ≡ 1) ⊎ (P ≡ 2 * (P / 2)) → Within (P / 2) (pos P *ℤ floorOf (v +ℤ pos (P / 2)) P -ℤ v)
+near-of : (P : ℕ) (v : ℤ) → 0 < P → (P ≡ 1) ⊎ (P ≡ 2 * (P / 2)) → Within (P / 2) (pos P *ℤ floorZ (v +ℤ pos (P / 2)) P -ℤ v)
 near-of P v some e =
     let f = floor-is (v +ℤ pos (P / 2)) P some in
     elim e

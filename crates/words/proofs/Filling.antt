@@ -4,9 +4,10 @@ use mathlib.Core.List.{List, [], _∷_, _++_, append-assoc}
 use Prim.Native.Nat.{ℕ, zero, suc, _+_, _-_, _*_, _/_, _%_, _^_, _<_, _≤_}
 use native.Mathlib.Omega.{arith}
 use lib.IntN.{ℤ, pos}
-use lib.ListN.{length, take, set, length-set}
+use lib.ListN.{length, getD, take, set, length-set}
 use Rattle.std.proofs.shelf.Lists.{take-more-set, take-all}
-use Rattle.words.specs.Digits.{digitOf, restOf, digitsOf}
+use Rattle.algebra.specs.Digits.{digitOf, restOf, digit}
+use Rattle.words.specs.Digits.{digitsOf}
 
 one-more : (B k : ℕ) (u : ℤ) → digitsOf B (suc (suc k)) u ≡ digitOf B u ∷ digitsOf B (suc k) (restOf B u)
 unfolding digitsOf
@@ -37,3 +38,12 @@ digits-end out B last u e =
     let z : last - last ≡ 0 = omega arith in
     let y = last-one B u in
     cc
+
+-- the list of digits, place by place
+pub digits-at : (B d : ℕ) (u : ℤ) (i : ℕ) → i < d → getD (digitsOf B d u) i (pos 0) ≡ digit B d u i
+unfolding digitsOf digit
+digits-at B zero u i h = absurd (omega arith)
+digits-at B (suc zero) u zero h = refl
+digits-at B (suc zero) u (suc i) h = absurd (omega arith)
+digits-at B (suc (suc d)) u zero h = refl
+digits-at B (suc (suc d)) u (suc i) h = digits-at B (suc d) (restOf B u) i (omega arith)

@@ -1,25 +1,13 @@
 -- Centred representatives and gadget decomposition, over the integers.
-use mathlib.Core.Bool.{cond}
 use mathlib.Core.List.{List, [], _∷_}
 use Prim.Native.Nat.{ℕ, zero, suc, _*_, _/_, _%_}
-use lib.Dec.{leb}
-use lib.IntN.{ℤ, pos, negsuc, _+ℤ_, _-ℤ_, _*ℤ_}
+use lib.IntN.{ℤ, pos, _+ℤ_, _*ℤ_}
+use Rattle.algebra.specs.Ints.{floorZ}
+use Rattle.algebra.specs.Digits.{centred, lowered, restOf, digitOf}
 
 -- the representative of a word of modulus R above -R/2 and at most R/2
 abbrev pub centredOf : ℕ → ℕ → ℤ
-centredOf R x = cond (leb (2 * (x % R)) R) (pos (x % R)) (pos (x % R) -ℤ pos R)
-
--- division rounded down
-abbrev pub floorOf : ℤ → ℕ → ℤ
-floorOf (pos a) b = pos (a / b)
-floorOf (negsuc a) b = negsuc (a / b)
-
--- one step of the split of u in base B: the rest, and the digit that is left
-abbrev pub restOf : ℕ → ℤ → ℤ
-restOf B u = floorOf (u +ℤ pos (B / 2)) B
-
-abbrev pub digitOf : ℕ → ℤ → ℤ
-digitOf B u = u -ℤ pos B *ℤ restOf B u
+centredOf R x = centred R (x % R)
 
 -- the digits of u in base B, lowest first: the last is the rest that remains
 unfoldable pub digitsOf : ℕ → ℕ → ℤ → List ℤ
@@ -34,7 +22,7 @@ valueOf B (x ∷ xs) = x +ℤ pos B *ℤ valueOf B xs
 
 -- what is split of a word of modulus R: its representative less the dropped part P, rounded
 abbrev pub scaledOf : ℕ → ℕ → ℕ → ℤ
-scaledOf R P x = floorOf (centredOf R x +ℤ pos (P / 2)) P
+scaledOf R P x = lowered P (centredOf R x)
 
 -- the gadget decomposition of a word of modulus R: d digits in base B of the word without its dropped part P
 abbrev pub splitOf : ℕ → ℕ → ℕ → ℕ → ℕ → List ℤ

@@ -17,7 +17,8 @@ use Rattle.faults.specs.declared.fault.Layer.the-variants.{Digits}
 use Rattle.faults.specs.Least.{unless, orElse, told}
 use Rattle.words.specs.Powers.{Power, powerWithin, within}
 use Rattle.words.specs.Moduli.{ringModulus, switchModulus}
-use Rattle.words.specs.Digits.{centredOf, digitOf, restOf, digitsOf, valueOf, splitOf}
+use Rattle.algebra.specs.Digits.{digitOf, restOf}
+use Rattle.words.specs.Digits.{centredOf, digitsOf, valueOf, splitOf}
 
 -- the digits reach: R ≤ P × B^d ≤ 2^40
 abbrev pub covers : ℕ → ℕ → ℕ → ℕ → Bool

@@ -6,7 +6,9 @@ ghost use lib.Signed.{_≤ℤ_, _<ℤ_};
 ghost use lib.ListN.{length};
 ghost use Rattle.std.specs.Results.{isOk};
 ghost use Rattle.faults.specs.Least.{Least, told};
-ghost use Rattle.words.specs.Digits.{centredOf, digitOf, restOf, floorOf, digitsOf, scaledOf, splitOf};
+ghost use Rattle.algebra.specs.Ints.{floorZ};
+ghost use Rattle.algebra.specs.Digits.{digitOf, restOf};
+ghost use Rattle.words.specs.Digits.{centredOf, digitsOf, scaledOf, splitOf};
 ghost use Rattle.words.specs.Gadgets.{StepRight, SplitRight, Centred, splitRefused, WrongSplit};
 use super::Gadget;
 use crate::modulus::Modulus;
@@ -52,7 +54,7 @@ fn half_of(width: u32) -> i64
 // The quotient by 2^width, rounded down.
 fn floor_by(u: i64, width: u32) -> i64
     requires { ⌜ width ≤ 16 ⌝ }
-    ensures { λ r. ⌜ r ≡ floorOf u (2 ^ width) ⌝ }
+    ensures { λ r. ⌜ r ≡ floorZ u (2 ^ width) ⌝ }
 {
     u >> width
 }
@@ -60,7 +62,7 @@ fn floor_by(u: i64, width: u32) -> i64
 // What the quotient leaves.
 fn left_by(u: i64, width: u32) -> i64
     requires { ⌜ width ≤ 16 ⌝ }
-    ensures value { λ r. ⌜ r ≡ u -ℤ pos (2 ^ width) *ℤ floorOf u (2 ^ width) ⌝ }
+    ensures value { λ r. ⌜ r ≡ u -ℤ pos (2 ^ width) *ℤ floorZ u (2 ^ width) ⌝ }
     ensures low { λ r. ⌜ pos 0 ≤ℤ r ⌝ }
     ensures high { λ r. ⌜ r <ℤ pos (2 ^ width) ⌝ }
 {

@@ -7,7 +7,8 @@ use mir.Val.{toZ, ofZ, SFits}
 use mir.Syntax.{w64}
 use borrow.Author.Needs.{needs}
 use Rattle.std.proofs.shelf.Signed.{ints, toZ-ofZ}
-use Rattle.words.specs.Digits.{digitOf, restOf, digitsOf}
+use Rattle.algebra.specs.Digits.{digitOf, restOf}
+use Rattle.words.specs.Digits.{digitsOf}
 use Rattle.words.proofs.Filling.{digits-more, digits-end}
 use Rattle.words.proofs.gadget.Gadget.fill.Needs as need
 

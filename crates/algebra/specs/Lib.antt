@@ -1,0 +1,17 @@
+pub mod Ints
+pub mod Polys
+pub mod Words
+pub mod Near
+pub mod Digits
+pub mod Keys
+pub mod Sweeps
+pub mod Gates
+pub mod Transform
+pub mod RingLaws
+pub mod WordLaws
+pub mod TransformLaws
+pub mod GadgetLaws
+pub mod RotationLaws
+pub mod GateLaws
+pub mod SecretLaws
+pub mod Cases
