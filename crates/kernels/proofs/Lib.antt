@@ -1,0 +1,3 @@
+pub mod Reduced
+pub mod FirstWrong
+pub mod Terms

@@ -1,0 +1,4 @@
+pub mod Polynomials
+pub mod Reading
+pub mod Lengths
+pub mod Schoolbook

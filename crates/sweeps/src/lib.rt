@@ -1,0 +1,2 @@
+// Sweeps: blind rotation of an accumulator by exponents under selectors.
+pub mod sweep;
