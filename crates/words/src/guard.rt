@@ -29,3 +29,17 @@ impl Drop for WipedDigits<'_> {
         let WipedDigits { digits: _ } = self;
     }
 }
+
+// Work memory of 16-bit words, all zeros once the guard is gone.
+pub struct WipedShorts<'a> {
+    pub shorts: &'a mut [u16],
+}
+
+impl Drop for WipedShorts<'_> {
+    fn drop(self)
+        ensures { λ _. ⌜ now (self .exit .0) ≡ replicate (length (now (self .entry .shorts))) 0 ⌝ }
+    {
+        self.shorts.fill(0);
+        let WipedShorts { shorts: _ } = self;
+    }
+}
