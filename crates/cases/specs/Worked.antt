@@ -9,6 +9,7 @@ use Rattle.faults.specs.declared.fault.Place.{Place}
 use Rattle.faults.specs.declared.fault.Place.the-variants.{At, Entry}
 use Rattle.faults.specs.declared.fault.Fault.{Fault}
 use Rattle.faults.specs.Causes.{numberOf, placeOf}
+use Rattle.algebra.specs.Words.{product}
 use Rattle.words.specs.Digits.{splitOf}
 use Rattle.words.specs.Rounding.{roundedTo}
 use Rattle.set.specs.declared.numbers.Numbers.{Numbers}
@@ -58,6 +59,9 @@ worked =
     case (splitOf 17 2 4 2 7) (pos 0 ∷ pos 1 ∷ [])
     ∷ case (splitOf 17 2 4 2 13) (negsuc 1 ∷ pos 0 ∷ [])
     ∷ case (splitOf 17 2 4 2 16) (pos 0 ∷ pos 0 ∷ [])
+    -- (1 + 2 X)(3 + X^3) = 1 + 6 X + X^3, and X^3 × X^2 = -X, modulo X^4 + 1 and 17
+    ∷ case (map pos (product 4 17 (1 ∷ 2 ∷ 0 ∷ 0 ∷ []) (3 ∷ 0 ∷ 0 ∷ 1 ∷ []))) (pos 1 ∷ pos 6 ∷ pos 0 ∷ pos 1 ∷ [])
+    ∷ case (map pos (product 4 17 (0 ∷ 0 ∷ 0 ∷ 1 ∷ []) (0 ∷ 0 ∷ 1 ∷ 0 ∷ []))) (pos 0 ∷ pos 16 ∷ pos 0 ∷ pos 0 ∷ [])
     -- rounding from 2^20 to 128
     ∷ case (pos (roundedTo (2 ^ 20) 128 4095) ∷ []) (pos 0 ∷ [])
     ∷ case (pos (roundedTo (2 ^ 20) 128 4096) ∷ []) (pos 1 ∷ [])

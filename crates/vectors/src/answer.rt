@@ -31,3 +31,12 @@ pub fn refused(heap: Global, fault: Fault) -> Result<String, AllocError> {
         Place::Entry(list, entry) => format!(heap, "fault {number} {list},{entry} {layer}"),
     }
 }
+
+// `ok` and some words.
+pub fn words(heap: Global, all: &Vec<u32>) -> Result<String, AllocError> {
+    let mut text = String::from_str(heap, "ok")?;
+    for word in all {
+        text.push_str(format!(heap, " {word}")?.as_str())?;
+    }
+    Ok(text)
+}

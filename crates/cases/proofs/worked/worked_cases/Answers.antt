@@ -1,5 +1,8 @@
 use mathlib.Core.Path.{refl}
 use lib.Count.{leadingZeros}
+use Rattle.algebra.specs.Ints.{sumZ}
+use Rattle.algebra.specs.Polys.{mul}
+use Rattle.algebra.specs.Words.{words, product}
 use Rattle.words.specs.Powers.{log2}
 use Rattle.words.specs.Digits.{digitsOf}
 use Rattle.set.specs.Limits.{limitsBroken}
@@ -8,5 +11,5 @@ use Rattle.cases.specs.Worked.{worked}
 use Rattle.cases.proofs.worked.worked_cases.Needs as need
 
 pub returns : need.returns
-unfolding worked digitsOf log2 leadingZeros limitsBroken rulesBroken
+unfolding worked product words mul sumZ digitsOf log2 leadingZeros limitsBroken rulesBroken
 returns c = refl
