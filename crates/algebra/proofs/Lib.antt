@@ -29,4 +29,4 @@ pub mod TransformLaws
 pub mod GadgetLaws
 pub mod RotationLaws
 pub mod SecretLaws
-pub mod Cases
+pub mod Example

@@ -14,4 +14,4 @@ pub mod GadgetLaws
 pub mod RotationLaws
 pub mod GateLaws
 pub mod SecretLaws
-pub mod Cases
+pub mod Example

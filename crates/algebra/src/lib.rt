@@ -6,7 +6,7 @@ ghost use Rattle.algebra.specs.GadgetLaws.{GadgetLaws};
 ghost use Rattle.algebra.specs.RotationLaws.{RotationLaws};
 ghost use Rattle.algebra.specs.GateLaws.{GateNoiseLaw};
 ghost use Rattle.algebra.specs.SecretLaws.{SecretLaws};
-ghost use Rattle.algebra.specs.Cases.{Cases};
+ghost use Rattle.algebra.specs.Example.{ExampleFits};
 
 // Polynomials modulo X^N + 1 form a commutative ring, with bounds on products and values at roots.
 pub fn ring_laws() -> u8
@@ -57,9 +57,9 @@ pub fn secret_laws() -> u8
     0
 }
 
-// The definitions, at numbers.
-pub fn worked_cases() -> u8
-    ensures { λ _. ⌜ Cases ⌝ }
+// Numbers, secrets and keys to which the law of a gate applies.
+pub fn example_fits() -> u8
+    ensures { λ _. ⌜ ExampleFits ⌝ }
 {
     0
 }
