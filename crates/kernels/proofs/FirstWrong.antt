@@ -1,17 +1,16 @@
 -- The first list of another length is the least fault.
-use mathlib.Core.Path.{_≡_, refl, ap, subst, sym, _∙_}
-use mathlib.Core.Bool.{Bool, true, false}
+use mathlib.Core.Path.{_≡_, refl, ap, _∙_}
 use mathlib.Core.List.{List, [], _∷_}
 use mathlib.Core.Logic.{_⊎_, inl, inr}
-use Prim.Native.Nat.{ℕ, zero, suc, _+_, _<_, _≤_}
+use Prim.Native.Nat.{ℕ, zero, suc, _+_, _<_}
 use native.Mathlib.Omega.{arith}
 use lib.Dec.{eqb}
 use lib.ListN.{length, getD}
 use Rattle.faults.specs.declared.fault.Fault.{Fault}
 use Rattle.faults.specs.declared.fault.Fault.the-variants.{Length}
 use Rattle.faults.specs.declared.fault.Layer.the-variants.{Kernel}
-use Rattle.faults.specs.Least.{NoLater, Least, unless}
-use Rattle.faults.proofs.Least.{least-or, least-same, least-length, least-none, no-later-by}
+use Rattle.faults.specs.Least.{Least, unless}
+use Rattle.faults.proofs.Least.{least-or, least-same, least-length, no-later-by}
 use Rattle.kernels.specs.Lengths.{wrongLength, WrongLengths, LengthsLeast}
 
 -- the same with the lists counted from s on

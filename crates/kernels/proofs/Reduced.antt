@@ -1,5 +1,5 @@
 -- Remainders of words.
-use mathlib.Core.Path.{_≡_, sym, _∙_, ap, subst}
+use mathlib.Core.Path.{_≡_, sym}
 use mathlib.Core.List.{List}
 use Prim.Native.Nat.{ℕ, _%_, _<_}
 use native.Mathlib.Omega.{arith}
@@ -9,7 +9,7 @@ use Rattle.std.proofs.shelf.Counted.{fill-by-all}
 use Rattle.algebra.specs.Polys.{Alike}
 use Rattle.algebra.specs.Words.{coeffs, words}
 use Rattle.algebra.proofs.Words.{words-long, words-at, words-below, words-alike}
-use Rattle.kernels.specs.Polynomials.{Below, IsPoly, reduced}
+use Rattle.kernels.specs.Polynomials.{IsPoly, reduced}
 
 module _ (N Q : ℕ) where
   pub reduced-at : (w : List ℕ) (k : ℕ) → k < N → getD (reduced N Q w) k 0 ≡ getD w k 0 % Q

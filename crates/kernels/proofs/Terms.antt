@@ -1,20 +1,20 @@
 -- A coefficient of a product, term by term.
-use mathlib.Core.Path.{_≡_, refl, sym, ap, _∙_}
+use mathlib.Core.Path.{_≡_}
 use mathlib.Core.Bool.{Bool, true, false, cond}
 use mathlib.Core.List.{List}
-use Prim.Native.Nat.{ℕ, zero, suc, _+_, _*_, _-_, _≤_, _<_, _%_}
+use Prim.Native.Nat.{ℕ, _+_, _*_, _-_, _≤_, _<_, _%_}
 use native.Mathlib.Omega.{arith}
 use native.Mathlib.Nat.{mod-lt}
 use native.Mathlib.Numerals.{add-one}
 use borrow.Author.Differences.{ints}
 use lib.Dec.{ltb}
 use lib.ListN.{getD, length}
-use lib.IntN.{ℤ, pos, negsuc, _+ℤ_, _*ℤ_, negℤ}
+use lib.IntN.{ℤ, pos, _+ℤ_, _*ℤ_, negℤ}
 use Rattle.std.proofs.shelf.Counted.{fill-by-all}
 use Rattle.algebra.specs.Ints.{sumZ, Cong}
 use Rattle.algebra.specs.Polys.{Poly, wrapped, plus, mul}
 use Rattle.algebra.specs.Words.{coeffs, wordOf, words, fused}
-use Rattle.algebra.proofs.Cong.{same, cong-refl, cong-sym, cong-trans, cong-add, cong-neg, cong-scale}
+use Rattle.algebra.proofs.Cong.{same, cong-sym, cong-trans, cong-add, cong-neg, cong-scale}
 use Rattle.algebra.proofs.Bridge.{mod-cong, word-is}
 use Rattle.algebra.proofs.Words.{fused-same}
 use Rattle.kernels.specs.Polynomials.{reduced}

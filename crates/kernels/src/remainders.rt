@@ -1,29 +1,19 @@
 ghost use mathlib.Core.Path.{_≡_};
-ghost use Prim.Native.Nat.{ℕ, _%_, _<_, _≤_};
+ghost use Prim.Native.Nat.{ℕ, _<_};
+ghost use mathlib.Core.Bool.{true};
 ghost use lib.ListN.{length, getD};
-ghost use Rattle.std.specs.Orderings.{Decides};
 ghost use Rattle.kernels.specs.Polynomials.{Below, reduced};
 use rings::ring::Ring;
 
-// The greatest of some words, or 0 where there are none.
-fn greatest(words: &[u32]) -> u32
-    ensures above { λ r. ⌜ ((k : ℕ) → k < length (now (words .entry)) → getD (now (words .entry)) k 0 ≤ r) ⌝ }
-    ensures least { λ r. ⌜ ((m : ℕ) → 0 < m → Below m (now (words .entry)) → r < m) ⌝ }
-{
-    let mut top = 0;
-    for i in 0..words.len() {
-        let word = words[i];
-        top = if word > top { word } else { top };
-    }
-    top
-}
-
-// Whether all words lie below a number.
+// Whether all words lie below the modulus: one pass, with no branch.
 fn all_below(words: &[u32], modulus: u32) -> bool
-    requires { ⌜ 0 < modulus ⌝ }
-    ensures { λ r. ⌜ Decides r (Below modulus (now (words .entry))) ⌝ }
+    ensures { λ r. ⌜ (r ≡ true → Below modulus (now (words .entry))) ⌝ }
 {
-    greatest(words) < modulus
+    let mut high = false;
+    for i in 0..words.len() {
+        high = high | (words[i] >= modulus);
+    }
+    !high
 }
 
 // Each word becomes its remainder.
@@ -45,13 +35,6 @@ fn settle(words: &mut [u32], modulus: u32)
     if !all_below(words, modulus) {
         divide(words, modulus);
     }
-}
-
-// Whether all words lie below the modulus.
-pub fn is_reduced(ring: &Ring, words: &[u32]) -> bool
-    ensures { λ r. ⌜ Decides r (Below (now (ring .entry) .modulus) (now (words .entry))) ⌝ }
-{
-    all_below(words, ring.modulus)
 }
 
 // Each word becomes its remainder by the modulus. A list of any length is taken.

@@ -1,8 +1,9 @@
 -- What a ring is built of: the table of roots, the root's power N, the inverse of N.
-use mathlib.Core.Path.{_≡_, refl, sym, _∙_, ap}
+use mathlib.Core.Path.{_≡_, sym, _∙_, ap}
 use mathlib.Core.List.{List}
 use Prim.Native.Nat.{ℕ, zero, suc, _+_, _-_, _*_, _/_, _%_, _^_, _<_, _≤_}
-use native.Mathlib.Nat.{mod-lt, mul-le-mul-left, pow-succ', mod-mod, pow-zero, pow-suc, mul-mul-mul-comm, mul-add, mul-one, mul-add-mod-self-right, mod-eq-of-lt}
+use native.Mathlib.Nat.{mod-lt, mul-le-mul-left, pow-succ', mod-mod, pow-zero, pow-suc, mul-mul-mul-comm, mul-add}
+use native.Mathlib.Nat.{mul-one, mul-add-mod-self-right, mod-eq-of-lt}
 use native.Mathlib.Omega.{arith}
 use lib.Pow.{pow-add, pow-mono}
 use lib.ListN.{length, getD}
@@ -62,7 +63,7 @@ halves Q (suc n) o =
     let x : ℕ = a ^ n * 2 ^ n in
     let d : (Q / 2 + 1) * 2 ≡ Q + 1 = omega arith in
     let e1 : a ^ suc n * 2 ^ suc n ≡ a ^ n * a * (2 ^ n * 2) =
-    ap (λ i. i * 2 ^ suc n) (pow-suc a n) ∙ ap (λ i. a ^ n * a * i) (pow-suc 2 n) in
+        ap (λ i. i * 2 ^ suc n) (pow-suc a n) ∙ ap (λ i. a ^ n * a * i) (pow-suc 2 n) in
     let e2 : a ^ n * a * (2 ^ n * 2) ≡ a ^ n * 2 ^ n * (a * 2) = mul-mul-mul-comm (a ^ n) a (2 ^ n) 2 in
     let e3 : x * (Q + 1) ≡ x * Q + x * 1 = mul-add x Q 1 in
     let e4 : x * 1 ≡ x = mul-one x in

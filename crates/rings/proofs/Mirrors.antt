@@ -1,5 +1,5 @@
 -- Mirrored numbers, and where the places of a table lie.
-use mathlib.Core.Path.{_≡_, refl, sym, _∙_, ap}
+use mathlib.Core.Path.{_≡_, sym, _∙_, ap}
 use Prim.Native.Nat.{ℕ, zero, suc, _+_, _-_, _*_, _/_, _%_, _^_, _<_, _≤_}
 use native.Mathlib.Nat.{mul-le-mul-right, pow-succ', one-mul, mod-eq-of-lt, mul-left-comm, add-mul, div-lt-iff-lt-mul, mul-lt-mul-of-pos-left}
 use native.Mathlib.Omega.{arith}
@@ -61,9 +61,9 @@ spot-low n h s r p e l =
     let hv : 2 ^ (n - 1 - s) * 2 ^ s ≡ 2 ^ (n - 1) = sym (pow-add 2 (n - 1 - s) s) ∙ ap (λ i. 2 ^ i) k in
     let a : 2 * r + 1 < 2 * 2 ^ s = omega arith in
     let m : 2 ^ (n - 1 - s) * (2 * r + 1) < 2 ^ (n - 1 - s) * (2 * 2 ^ s) =
-    mul-lt-mul-of-pos-left a (pow-pos (n - 1 - s)) in
+        mul-lt-mul-of-pos-left a (pow-pos (n - 1 - s)) in
     let c : 2 ^ (n - 1 - s) * (2 * 2 ^ s) ≡ 2 * (2 ^ (n - 1 - s) * 2 ^ s) =
-    mul-left-comm (2 ^ (n - 1 - s)) 2 (2 ^ s) in
+        mul-left-comm (2 ^ (n - 1 - s)) 2 (2 ^ s) in
     omega arith
 
 pub half-low : (n h : ℕ) → n ≤ 10 → h ≡ 2 ^ (n - 1) → h ≤ 512

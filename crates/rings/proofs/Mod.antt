@@ -1,5 +1,5 @@
 -- Numbers that leave one remainder.
-use mathlib.Core.Path.{_≡_, refl, sym, _∙_, ap}
+use mathlib.Core.Path.{_≡_, sym, _∙_, ap}
 use Prim.Native.Nat.{ℕ, _+_, _*_, _/_, _%_, _^_, _<_}
 use native.Mathlib.Nat.{add-mod, mod-mod, div-add-mod, mul-add-mod-self-left, add-mul, mul-assoc, mul-comm, pow-zero, pow-suc, mod-eq-of-lt}
 use native.Mathlib.Numerals.{add-one}

@@ -1,17 +1,16 @@
 -- The rule that is answered is the least fault.
-use mathlib.Core.Path.{_≡_, refl, sym, _∙_, ap, subst}
+use mathlib.Core.Path.{_≡_, refl}
 use mathlib.Core.Bool.{Bool, true, false, cond}
 use mathlib.Core.Logic.{_⊎_, inl, inr}
-use Prim.Native.Nat.{ℕ, zero, suc, _+_, _-_, _%_, _^_, _<_, _≤_}
+use Prim.Native.Nat.{ℕ, zero, suc, _-_, _%_, _^_, _≤_}
 use native.Mathlib.Omega.{arith}
 use lib.Dec.{eqb, ltb}
 use Rattle.std.proofs.shelf.Tests.{eqb-true}
 use borrow.Author.Tests.{eq-eqb}
 use Rattle.std.proofs.shelf.Ways.{tells}
-use Rattle.std.specs.declared.option.Option.{Option}
 use Rattle.faults.specs.declared.fault.Fault.{Fault}
 use Rattle.faults.specs.declared.fault.Fault.the-variants.{Field, Root}
-use Rattle.faults.specs.Least.{NoLater, Least, orElse, unless}
+use Rattle.faults.specs.Least.{NoLater, Least, unless}
 use Rattle.faults.proofs.Least.{least-or, least-unless, no-later-by}
 use Rattle.rings.specs.Rules.{IsDegree, IsModulus, IsRoot, Wraps, WrongRing, logOf, fitsModulus, fitsRoot, ringBroken}
 
@@ -92,20 +91,20 @@ ring-least N Q ψ =
     let wraps = eqb (ψ ^ N % Q) (Q - 1) in
     let r3 = one-rule wraps Root (Wraps N Q ψ) (eq-eqb (ψ ^ N % Q) (Q - 1)) (eqb-true (ψ ^ N % Q) (Q - 1)) in
     let last : (f g : Fault) → W2 f → W3 g → NoLater f g =
-    λ f g w v. no-later-by f g (Field 4) Root (w .0) (v .0) (inl (omega arith)) in
+        λ f g w v. no-later-by f g (Field 4) Root (w .0) (v .0) (inl (omega arith)) in
     let next : (f g : Fault) → W1 f → W2 g ⊎ W3 g → NoLater f g =
-    λ f g w v. elim v [
+        λ f g w v. elim v [
       | inl x ↦ no-later-by f g (Field 3) (Field 4) (w .0) (x .0) (inr (refl, inl (omega arith)))
       | inr y ↦ no-later-by f g (Field 3) Root (w .0) (y .0) (inl (omega arith))
-    ] in
+        ] in
     let first : (f g : Fault) → W0 f → W1 g ⊎ (W2 g ⊎ W3 g) → NoLater f g =
-    λ f g w v. elim v [
+        λ f g w v. elim v [
       | inl x ↦ no-later-by f g (Field 0) (Field 3) (w .0) (x .0) (inr (refl, inl (omega arith)))
       | inr z ↦ elim z [
         | inl x ↦ no-later-by f g (Field 0) (Field 4) (w .0) (x .0) (inr (refl, inl (omega arith)))
         | inr y ↦ no-later-by f g (Field 0) Root (w .0) (y .0) (inl (omega arith))
       ]
-    ] in
+        ] in
     let third = least-or W2 W3 _ _ r2 r3 last in
     let second = least-or W1 (λ g. W2 g ⊎ W3 g) _ _ r1 third next in
     least-or W0 (λ g. W1 g ⊎ (W2 g ⊎ W3 g)) _ _ r0 second first

@@ -1,8 +1,10 @@
 -- Barrett's remainder is exact: a guess of the quotient that is at most 2 too small, and two conditional subtractions.
-use mathlib.Core.Path.{_≡_, refl, sym, _∙_, ap}
+use mathlib.Core.Path.{_≡_, sym, _∙_, ap}
 use mathlib.Core.Logic.{_⊎_, inl, inr}
 use Prim.Native.Nat.{ℕ, _+_, _-_, _*_, _/_, _%_, _^_, _<_, _≤_}
-use native.Mathlib.Nat.{mul-le-mul, mul-le-mul-left, mul-le-mul-right, mul-lt-mul-of-pos-right, mul-add, add-mul, mul-assoc, mul-comm, div-mul-le-self, lt-div-mul-add, le-of-mul-le-mul-right, lt-of-mul-lt-mul-right, add-mul-mod-self-right, mod-eq-of-lt}
+use native.Mathlib.Nat.{mul-le-mul, mul-le-mul-left, mul-le-mul-right, mul-lt-mul-of-pos-right, mul-add, add-mul}
+use native.Mathlib.Nat.{mul-assoc, mul-comm, div-mul-le-self, lt-div-mul-add, le-of-mul-le-mul-right}
+use native.Mathlib.Nat.{lt-of-mul-lt-mul-right, add-mul-mod-self-right, mod-eq-of-lt}
 use native.Mathlib.Omega.{arith}
 use lib.Pow.{pow-pos, pow-mono}
 use Rattle.std.proofs.shelf.Tests.{cases-lt}
@@ -78,7 +80,7 @@ guessed t Q u k few bits fits e below square uw =
     let b0 : 0 < 2 ^ (k + 1) = pow-pos (k + 1) in
     let q0 : 0 < Q = omega arith in
     let r : (guess t u k * Q ≤ t) × (t < guess t u k * Q + (Q + (Q + Q))) =
-    barrett-bounds t Q u (2 ^ (k - 1)) (2 ^ (k + 1)) q0 a0 b0 bits below e in
+        barrett-bounds t Q u (2 ^ (k - 1)) (2 ^ (k + 1)) q0 a0 b0 bits below e in
     let bb : 2 ^ (k + 1) ≤ 2 ^ 32 = pow-mono {i = k + 1} {j = 32} (omega arith) in
     let na : t / 2 ^ (k - 1) * 2 ^ (k - 1) ≤ t = div-mul-le-self t (2 ^ (k - 1)) in
     let cm : 2 ^ (k - 1) * 2 ^ (k + 1) ≡ 2 ^ (k + 1) * 2 ^ (k - 1) = mul-comm (2 ^ (k - 1)) (2 ^ (k + 1)) in

@@ -1,7 +1,7 @@
 -- Products of forms, place by place, are the forms of products.
 use mathlib.Core.Path.{_≡_, refl, sym, _∙_, ap, ap₂}
 use mathlib.Core.List.{List}
-use Prim.Native.Nat.{ℕ, zero, suc, _+_, _-_, _*_, _%_, _^_, _<_, _≤_}
+use Prim.Native.Nat.{ℕ, zero, suc, _+_, _*_, _%_, _^_, _<_}
 use native.Mathlib.Nat.{mod-lt, mul-comm}
 use native.Mathlib.Omega.{arith}
 use lib.ListN.{length, getD}
@@ -16,14 +16,14 @@ use Rattle.algebra.proofs.Bridge.{mod-cong, word-unique}
 use Rattle.algebra.proofs.Words.{fused-alike}
 use Rattle.rings.specs.declared.ring.Ring.{Ring}
 use Rattle.rings.specs.Tables.{mirror}
-use Rattle.kernels.specs.Polynomials.{InRing, polyOf, fusedIn}
+use Rattle.kernels.specs.Polynomials.{polyOf, fusedIn}
 use Rattle.kernels.specs.Reading.{folded}
 use Rattle.kernels.proofs.Reduced.{reduced-poly, reduced-at}
 use Rattle.transform.specs.Order.{order}
 use Rattle.transform.specs.Pointwise.{fusedWord, pointwise}
 use Rattle.transform.specs.Reads.{reads}
 use Rattle.transform.specs.Values.{sum, values}
-use Rattle.transform.proofs.Reading.{values-at, values-poly, reads-poly, values-reads, reads-rest}
+use Rattle.transform.proofs.Reading.{values-at, values-poly, values-reads, reads-rest}
 use Rattle.transform.proofs.Return.{root-turns}
 use Rattle.transform.proofs.Rows.{some}
 
@@ -71,9 +71,9 @@ module _ (r : Ring) where
   values-cong p k l =
       let e : ℕ = order (r .log) k in
       let term : (i : ℕ) → pos (getD p i 0 * r .root ^ (i * e)) ≡ coeffs p i *ℤ pow (pos (r .root ^ e)) i =
-      λ i. ap (λ (z : ℤ). pos (getD p i 0) *ℤ z)
-      (ap (λ (j : ℕ). pos (r .root ^ j)) (mul-comm i e)
-      ∙ (pow-pos (r .root) (e * i) ∙ (pow-mul (pos (r .root)) e i ∙ ap (λ (z : ℤ). pow z i) (sym (pow-pos (r .root) e))))) in
+          λ i. ap (λ (z : ℤ). pos (getD p i 0) *ℤ z)
+          (ap (λ (j : ℕ). pos (r .root ^ j)) (mul-comm i e)
+          ∙ (pow-pos (r .root) (e * i) ∙ (pow-mul (pos (r .root)) e i ∙ ap (λ (z : ℤ). pow z i) (sym (pow-pos (r .root) e))))) in
       cong-trans Q (same Q _ _ (ap pos (values-at r p k l)))
       (cong-trans Q (mod-cong Q (sum (r .degree) (λ i. getD p i 0 * r .root ^ (i * e))))
       (same Q _ _ (sum-pos (r .degree) (λ i. getD p i 0 * r .root ^ (i * e)) (λ i. coeffs p i *ℤ pow (pos (r .root ^ e)) i) term)))
@@ -86,8 +86,8 @@ module _ (r : Ring) where
       let N : ℕ = r .degree in
       let ψ : ℤ = pos (r .root) in
       let turn : pow (pos (r .root ^ e)) N ≡ pow (pow ψ N) e =
-      ap (λ (i : ℤ). pow i N) (pow-pos (r .root) e)
-      ∙ (sym (pow-mul ψ e N) ∙ (ap (λ (i : ℕ). pow ψ i) (mul-comm e N) ∙ pow-mul ψ N e)) in
+          ap (λ (i : ℤ). pow i N) (pow-pos (r .root) e)
+          ∙ (sym (pow-mul ψ e N) ∙ (ap (λ (i : ℕ). pow ψ i) (mul-comm e N) ∙ pow-mul ψ N e)) in
       let base : Cong Q (pow ψ N) (negsuc 0) = cong-trans Q (same Q _ _ (sym (pow-pos (r .root) N))) (root-turns r) in
       cong-trans Q (same Q _ _ turn) (cong-trans Q (pow-cong Q e base) (same Q _ _ (pow-odd m)))
 
@@ -109,13 +109,13 @@ module _ (r : Ring) where
           let hf = values-poly r f in
           let product : Poly = mul N (coeffs a) (coeffs b) in
           let left : Cong Q (pos (getD (values r f) k 0)) (eval N (coeffs c) z +ℤ eval N (coeffs a) z *ℤ eval N (coeffs b) z) =
-          cong-trans Q (values-cong f k l)
-          (cong-trans Q (eval-alike Q N (coeffs f) (plus (coeffs c) product) z (fused-alike N Q c a b (some r)))
-          (cong-trans Q (same Q _ _ (eval-plus N (coeffs c) product z))
-          (cong-add Q (cong-refl Q (eval N (coeffs c) z)) (eval-mul Q N z (point-turns k) (coeffs a) (coeffs b))))) in
+              cong-trans Q (values-cong f k l)
+              (cong-trans Q (eval-alike Q N (coeffs f) (plus (coeffs c) product) z (fused-alike N Q c a b (some r)))
+              (cong-trans Q (same Q _ _ (eval-plus N (coeffs c) product z))
+              (cong-add Q (cong-refl Q (eval N (coeffs c) z)) (eval-mul Q N z (point-turns k) (coeffs a) (coeffs b))))) in
           let right =
-          fused-cong Q (getD (values r c) k 0) (getD (values r a) k 0) (getD (values r b) k 0) (eval N (coeffs c) z) (eval N (coeffs a) z)
-          (eval N (coeffs b) z) (values-cong c k l) (values-cong a k l) (values-cong b k l) in
+              fused-cong Q (getD (values r c) k 0) (getD (values r a) k 0) (getD (values r b) k 0) (eval N (coeffs c) z) (eval N (coeffs a) z)
+              (eval N (coeffs b) z) (values-cong c k l) (values-cong a k l) (values-cong b k l) in
           word-unique Q _ _ (hf .1 k (omega (arith, hf .0)))
           (mod-lt (getD (values r c) k 0 + getD (values r a) k 0 * getD (values r b) k 0 % Q) (some r))
           (cong-trans Q left (cong-sym Q right))
@@ -146,7 +146,7 @@ module _ (r : Ring) where
   pub fold-reads : (c a b : List ℕ) → pointwise (r .degree) (r .modulus) c a b ≡ folded reads values r c a b
   fold-reads c a b =
       let own : (w : List ℕ) → polyOf r w ≡ values r (reads r w) =
-      λ w. sym (values-reads r (polyOf r w) (reduced-poly (r .degree) Q w (some r))) ∙ ap (λ (i : List ℕ). values r i) (sym (reads-rest r w)) in
+          λ w. sym (values-reads r (polyOf r w) (reduced-poly (r .degree) Q w (some r))) ∙ ap (λ (i : List ℕ). values r i) (sym (reads-rest r w)) in
       pointwise-rest c a b
       ∙ (ap (λ (i : List ℕ). pointwise (r .degree) Q i (polyOf r a) (polyOf r b)) (own c)
       ∙ (ap (λ (i : List ℕ). pointwise (r .degree) Q (values r (reads r c)) i (polyOf r b)) (own a)

@@ -1,9 +1,10 @@
 -- A stage keeps what the blocks of an array hold.
 use mathlib.Core.Path.{_≡_, refl, sym, _∙_, ap, subst}
 use mathlib.Core.List.{List}
-use mathlib.Core.Logic.{_⊎_, inl, inr}
-use Prim.Native.Nat.{ℕ, zero, suc, _+_, _-_, _*_, _/_, _%_, _^_, _<_, _≤_}
-use native.Mathlib.Nat.{mul-add, add-mul, mul-assoc, mul-comm, mul-left-comm, mul-le-mul-right, mod-mod, add-mod-mod, add-mod-right, mul-add-mod-self-right, mod-eq-of-lt, mod-lt, mul-one, one-mul, zero-mul, add-zero}
+use Prim.Native.Nat.{ℕ, suc, _+_, _-_, _*_, _/_, _%_, _^_, _<_, _≤_}
+use native.Mathlib.Nat.{mul-add, add-mul, mul-assoc, mul-comm, mul-left-comm, mul-le-mul-right, mod-mod, add-mod-mod}
+use native.Mathlib.Nat.{add-mod-right, mul-add-mod-self-right, mod-eq-of-lt, mod-lt, mul-one, one-mul, zero-mul}
+use native.Mathlib.Nat.{add-zero}
 use native.Mathlib.Omega.{arith}
 use lib.Pow.{pow-add}
 use lib.ListN.{length, getD}
@@ -47,20 +48,20 @@ step Q m b d h c z x y made root =
     let lo : ℕ → ℕ = λ k. low k * z ^ k in
     let hi : ℕ → ℕ = λ k. high k * z ^ k in
     let term : (k : ℕ) → k < h → Same Q (new k * z ^ k) (lo k + c * hi k) =
-    λ k l. same-times Q (new k) (low k + c * high k) (z ^ k) (made k l)
-    ∙ ap (λ n. n % Q) (add-mul (low k) (c * high k) (z ^ k) ∙ ap (λ n. lo k + n) (mul-assoc c (high k) (z ^ k))) in
+        λ k l. same-times Q (new k) (low k + c * high k) (z ^ k) (made k l)
+        ∙ ap (λ n. n % Q) (add-mul (low k) (c * high k) (z ^ k) ∙ ap (λ n. lo k + n) (mul-assoc c (high k) (z ^ k))) in
     let one : Same Q (sum h (λ k. new k * z ^ k)) (sum h (λ k. lo k + c * hi k)) =
-    sum-same Q h (λ k. new k * z ^ k) (λ k. lo k + c * hi k) term in
+        sum-same Q h (λ k. new k * z ^ k) (λ k. lo k + c * hi k) term in
     let two : sum h (λ k. lo k + c * hi k) ≡ sum h lo + c * sum h hi =
-    sum-plus h lo (λ k. c * hi k) ∙ ap (λ n. sum h lo + n) (sum-times h c hi) in
+        sum-plus h lo (λ k. c * hi k) ∙ ap (λ n. sum h lo + n) (sum-times h c hi) in
     let three : Same Q (sum h lo + z ^ h * sum h hi) (sum h lo + c * sum h hi) =
-    same-add Q (sum h lo) (sum h lo) (z ^ h * sum h hi) (c * sum h hi) refl (same-times Q (z ^ h) c (sum h hi) root) in
+        same-add Q (sum h lo) (sum h lo) (z ^ h * sum h hi) (c * sum h hi) refl (same-times Q (z ^ h) c (sum h hi) root) in
     let move : (k : ℕ) → high k * z ^ (h + k) ≡ z ^ h * hi k =
-    λ k. ap (λ n. high k * n) (pow-add z h k) ∙ mul-left-comm (high k) (z ^ h) (z ^ k) in
+        λ k. ap (λ n. high k * n) (pow-add z h k) ∙ mul-left-comm (high k) (z ^ h) (z ^ k) in
     let four : sum h (λ k. high k * z ^ (h + k)) ≡ z ^ h * sum h hi =
-    sum-is h (λ k. high k * z ^ (h + k)) (λ k. z ^ h * hi k) move ∙ sum-times h (z ^ h) hi in
+        sum-is h (λ k. high k * z ^ (h + k)) (λ k. z ^ h * hi k) move ∙ sum-times h (z ^ h) hi in
     let five : strided x m b (h + h) z ≡ sum h lo + z ^ h * sum h hi =
-    sum-split h h lo ∙ ap (λ n. sum h lo + n) four in
+        sum-split h h lo ∙ ap (λ n. sum h lo + n) four in
     one ∙ (ap (λ n. n % Q) two ∙ (sym three ∙ ap (λ n. n % Q) (sym five)))
 
 -- ---- Q - 1 is -1
@@ -146,12 +147,12 @@ module _ (Q ψ s g h n : ℕ) (w x y : List ℕ) (t : Stage Q ψ s g h n w x y) 
       let a : ℕ = ψ ^ p in
       let m2 : Same Q (z ^ g) (a * n) = r ∙ turned p in
       let m3 : Same Q (z ^ (g + g)) (a * n * (a * n)) =
-      ap (λ i. i % Q) (pow-add z g g) ∙ same-both Q (z ^ g) (a * n) (z ^ g) (a * n) m2 m2 in
+          ap (λ i. i % Q) (pow-add z g g) ∙ same-both Q (z ^ g) (a * n) (z ^ g) (a * n) m2 m2 in
       let e : a * n * (a * n) ≡ a * a * (n * n) =
-      mul-assoc a n (a * n) ∙ (ap (λ i. a * i) (mul-left-comm n a n) ∙ sym (mul-assoc a a (n * n))) in
+          mul-assoc a n (a * n) ∙ (ap (λ i. a * i) (mul-left-comm n a n) ∙ sym (mul-assoc a a (n * n))) in
       let m4 : Same Q (a * a * (n * n)) (a * a * 1) = same-both Q (a * a) (a * a) (n * n) 1 refl (square-one Q n (t .top)) in
       let up : a * a * 1 ≡ ψ ^ power (g + g) s b =
-      mul-one (a * a) ∙ (sym (pow-add ψ p p) ∙ ap (λ i. ψ ^ i) (sym (add-mul g g (2 * mirror s b + 1)))) in
+          mul-one (a * a) ∙ (sym (pow-add ψ p p) ∙ ap (λ i. ψ ^ i) (sym (add-mul g g (2 * mirror s b + 1)))) in
       m3 ∙ (ap (λ i. i % Q) e ∙ (m4 ∙ ap (λ i. i % Q) up))
 
   inside : (k b : ℕ) → k < g → b < 2 ^ s → k * 2 ^ s + b < length w
@@ -198,7 +199,7 @@ module _ (Q ψ s g h n : ℕ) (w x y : List ℕ) (t : Stage Q ψ s g h n w x y) 
       let five : Same Q (u * n) (ψ ^ p * n) = same-times Q u (ψ ^ p) n (root-at k b hk hb) in
       let six : Same Q (u * n) c = five ∙ sym (turned p) in
       let seven : Same Q (Q - v * u % Q) (c * v) =
-      two ∙ (three ∙ (ap (λ i. i % Q) four ∙ same-times Q (u * n) c v six)) in
+          two ∙ (three ∙ (ap (λ i. i % Q) four ∙ same-times Q (u * n) c v six)) in
       ap (λ i. getD y i 0 % Q) (sym (spot k b (2 ^ s) 1))
       ∙ (ap (λ i. i % Q) one
       ∙ (mod-mod (a + (Q - v * u % Q)) Q
@@ -210,16 +211,21 @@ module _ (Q ψ s g h n : ℕ) (w x y : List ℕ) (t : Stage Q ψ s g h n w x y) 
   holds-next N f before =
       by-pair (2 ^ s) (λ b. (z : ℕ) → Same Q (z ^ g) (ψ ^ power g (suc s) b) → Same Q (strided y (2 * 2 ^ s) b g z) (value N f z))
       (λ b hb. (
-        λ z r. subst (λ (i : ℕ). Same Q (strided y (2 * 2 ^ s) i g z) (value N f z)) (even b) (left b hb z (r ∙ ap (λ i. ψ ^ i % Q) (ap (λ i. power g (suc s) i) (sym (even b)) ∙ left-power g s b))),
+        λ z r. subst (λ (i : ℕ). Same Q (strided y (2 * 2 ^ s) i g z) (value N f z)) (even b) (left b hb z (r ∙ to-left b)),
         λ z r. right b hb z (r ∙ ap (λ i. ψ ^ i % Q) (right-power g s b h (t .halves))),
       ))
     where
       even : (b : ℕ) → 2 * b + 0 ≡ 2 * b
       even b = omega arith
 
-      left : (b : ℕ) → b < 2 ^ s → (z : ℕ) → Same Q (z ^ g) (ψ ^ power g s b) → Same Q (strided y (2 * 2 ^ s) (2 * b + 0) g z) (value N f z)
+      to-left : (b : ℕ) → Same Q (ψ ^ power g (suc s) (2 * b)) (ψ ^ power g s b)
+      to-left b = ap (λ i. ψ ^ i % Q) (ap (λ i. power g (suc s) i) (sym (even b)) ∙ left-power g s b)
+
+      left : (b : ℕ) → b < 2 ^ s → (z : ℕ) → Same Q (z ^ g) (ψ ^ power g s b)
+          → Same Q (strided y (2 * 2 ^ s) (2 * b + 0) g z) (value N f z)
       left b hb z r = step Q (2 ^ s) b 0 g (ψ ^ power g s b) z x y (child-left b hb) r ∙ before b hb z (up-left b z r)
 
-      right : (b : ℕ) → b < 2 ^ s → (z : ℕ) → Same Q (z ^ g) (ψ ^ (power g s b + 2 * h)) → Same Q (strided y (2 * 2 ^ s) (2 * b + 1) g z) (value N f z)
+      right : (b : ℕ) → b < 2 ^ s → (z : ℕ) → Same Q (z ^ g) (ψ ^ (power g s b + 2 * h))
+          → Same Q (strided y (2 * 2 ^ s) (2 * b + 1) g z) (value N f z)
       right b hb z r =
           step Q (2 ^ s) b 1 g (ψ ^ (power g s b + 2 * h)) z x y (child-right b hb) r ∙ before b hb z (up-right b z r)

@@ -3,7 +3,7 @@ use mathlib.Core.Path.{_≡_, sym, _∙_, ap}
 use mathlib.Core.List.{List}
 use Prim.Native.Nat.{ℕ, _+_, _*_, _%_, _^_, _<_}
 use native.Mathlib.Omega.{arith}
-use lib.ListN.{length, getD}
+use lib.ListN.{getD}
 use lib.IntN.{ℤ, pos, negsuc, pow}
 use Rattle.algebra.specs.Ints.{Cong}
 use Rattle.algebra.specs.Polys.{Poly, Alike, eval}
@@ -49,7 +49,7 @@ module _ (r : Ring) (w : List ℕ) where
 
   -- the value at ψ^(2 j + 1) of what is read is the word of that place
   read-value : (j : ℕ) → j < r .degree
-    → Cong (r .modulus) (eval (r .degree) (coeffs (reads r w)) (pow (pos (r .root)) (2 * j + 1))) (pos (getD w (mirror (r .log) j) 0))
+      → Cong (r .modulus) (eval (r .degree) (coeffs (reads r w)) (pow (pos (r .root)) (2 * j + 1))) (pos (getD w (mirror (r .log) j) 0))
   read-value j l =
       let jb : j < 2 ^ r .log = omega (arith, r .size .0) in
       let k : ℕ = place j in
@@ -69,7 +69,7 @@ module _ (r : Ring) (w : List ℕ) where
   alike =
       settled Q N (r .log) ψ (r .size .0) (r .limits .0) turns (coeffs (reads r w)) target
       (λ j l. cong-trans Q (read-value j l)
-        (cong-sym Q (interpolates Q N (r .log) ψ (r .size .0) (r .limits .0) turns (λ i. pos (getD w (mirror (r .log) i) 0)) j l)))
+      (cong-sym Q (interpolates Q N (r .log) ψ (r .size .0) (r .limits .0) turns (λ i. pos (getD w (mirror (r .log) i) 0)) j l)))
 
 pub interpolation : Interpolates
 interpolation r w =

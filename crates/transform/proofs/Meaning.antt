@@ -1,8 +1,8 @@
 -- The stages of a polynomial give its values.
-use mathlib.Core.Path.{_≡_, refl, sym, _∙_, ap, subst}
+use mathlib.Core.Path.{_≡_, sym, _∙_, ap, subst}
 use mathlib.Core.List.{List}
 use Prim.Native.Nat.{ℕ, zero, suc, _+_, _-_, _*_, _%_, _^_, _<_, _≤_}
-use native.Mathlib.Nat.{mod-eq-of-lt, pow-succ', pow-zero, pow-suc, mul-one, one-mul, zero-mul, zero-add, mul-comm}
+use native.Mathlib.Nat.{mod-eq-of-lt, pow-succ', pow-zero, pow-suc, mul-one, one-mul, zero-mul, zero-add}
 use native.Mathlib.Omega.{arith}
 use lib.ListN.{length, getD}
 use Rattle.std.proofs.shelf.Counted.{fill-by-all}
@@ -68,14 +68,14 @@ module _ (r : Ring) where
       let up : suc (r .log - (s + 1)) ≡ r .log - s = omega arith in
       let g2 : 2 ^ (r .log - s) ≡ g + g = ap (λ i. 2 ^ i) (sym up) ∙ (pow-succ' 2 (r .log - (s + 1)) ∙ omega arith) in
       let st : Stage (r .modulus) (r .root) s g (r .half) (r .modulus - 1) w x y =
-      record {
+          record {
         top = omega (arith, r .limits .1);
         neg = neg;
         halves = reach-is r s l;
         long = row-long r s l;
         roots = row-roots r s l;
         done = staged-is (r .modulus) w x;
-      } in
+          } in
       let b2 : Kept f s (g + g) x = subst (λ (i : ℕ). Kept f s i x) g2 before in
       let nx = holds-next (r .modulus) (r .root) s g (r .half) (r .modulus - 1) w x y st (r .degree) f b2 in
       let e : r .log - (s + 1) ≡ r .log - suc s = omega arith in
@@ -102,13 +102,13 @@ module _ (r : Ring) where
       let h1 : Kept f (r .log) 1 y = subst (λ (i : ℕ). Kept f (r .log) (2 ^ i) y) n0 h in
       let z : ℕ = r .root ^ order (r .log) k in
       let z1 : z ^ 1 ≡ r .root ^ power 1 (r .log) k =
-      pow-suc z 0 ∙ (ap (λ i. i * z) (pow-zero z) ∙ (one-mul z ∙ ap (λ i. r .root ^ i) (sym (one-mul (order (r .log) k))))) in
+          pow-suc z 0 ∙ (ap (λ i. i * z) (pow-zero z) ∙ (one-mul z ∙ ap (λ i. r .root ^ i) (sym (one-mul (order (r .log) k))))) in
       let kb : k < 2 ^ r .log = omega (arith, r .size .0) in
       let same = h1 k kb z (ap (λ i. i % r .modulus) z1) in
       let v : ℕ = getD y (0 * 2 ^ r .log + k) 0 in
       let place : 0 * 2 ^ r .log + k ≡ k = ap (λ i. i + k) (zero-mul (2 ^ r .log)) ∙ zero-add k in
       let at : strided y (2 ^ r .log) k 1 z ≡ getD y k 0 =
-      ap (λ i. 0 + v * i) (pow-zero z) ∙ (ap (λ i. 0 + i) (mul-one v) ∙ (zero-add v ∙ ap (λ i. getD y i 0) place)) in
+          ap (λ i. 0 + v * i) (pow-zero z) ∙ (ap (λ i. 0 + i) (mul-one v) ∙ (zero-add v ∙ ap (λ i. getD y i 0) place)) in
       sym (mod-eq-of-lt (below k (omega arith))) ∙ (ap (λ i. i % r .modulus) (sym at) ∙ same)
 
   -- all stages of a polynomial give its form

@@ -1,11 +1,11 @@
 -- Mirroring twice gives the number back, so the places go through the odd numbers.
-use mathlib.Core.Path.{_≡_, refl, sym, _∙_, ap}
-use Prim.Native.Nat.{ℕ, zero, suc, _+_, _-_, _*_, _/_, _%_, _^_, _<_, _≤_}
+use mathlib.Core.Path.{_≡_, sym, _∙_, ap}
+use Prim.Native.Nat.{ℕ, zero, suc, _+_, _*_, _/_, _%_, _^_, _<_}
 use native.Mathlib.Nat.{pow-succ', mul-left-comm}
 use native.Mathlib.Omega.{arith}
 use Rattle.rings.specs.Tables.{mirror}
 use Rattle.rings.proofs.Mirrors.{mirror-low}
-use Rattle.transform.specs.Order.{order, Odds, EachOddOnce}
+use Rattle.transform.specs.Order.{EachOddOnce}
 
 -- the highest bit becomes the lowest
 high-bit : (s x d : ℕ) → x < 2 ^ s → d < 2 → mirror (suc s) (x + d * 2 ^ s) ≡ 2 * mirror s x + d
@@ -18,8 +18,8 @@ high-bit (suc s) x d l h =
     let bit : (x + d * 2 ^ suc s) % 2 ≡ x % 2 = omega arith in
     let i : mirror (suc s) (x / 2 + d * 2 ^ s) ≡ 2 * mirror s (x / 2) + d = high-bit s (x / 2) d (omega arith) h in
     let g : mirror (suc (suc s)) (x + d * 2 ^ suc s) ≡ mirror (suc s) (x / 2 + d * 2 ^ s) + x % 2 * 2 ^ suc s =
-    ap (λ j. mirror (suc s) j + (x + d * 2 ^ suc s) % 2 * 2 ^ suc s) rest
-    ∙ ap (λ j. mirror (suc s) (x / 2 + d * 2 ^ s) + j * 2 ^ suc s) bit in
+        ap (λ j. mirror (suc s) j + (x + d * 2 ^ suc s) % 2 * 2 ^ suc s) rest
+        ∙ ap (λ j. mirror (suc s) (x / 2 + d * 2 ^ s) + j * 2 ^ suc s) bit in
     g ∙ (ap (λ j. j + x % 2 * 2 ^ suc s) i ∙ omega arith)
 
 pub mirror-twice : (s b : ℕ) → b < 2 ^ s → mirror s (mirror s b) ≡ b

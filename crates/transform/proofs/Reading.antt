@@ -1,7 +1,7 @@
 -- The laws of reading: each list of words reads as one polynomial, each polynomial has one form.
-use mathlib.Core.Path.{_≡_, refl, sym, _∙_, ap, subst}
+use mathlib.Core.Path.{_≡_, sym, _∙_, ap, subst}
 use mathlib.Core.List.{List}
-use Prim.Native.Nat.{ℕ, _+_, _*_, _%_, _^_, _<_, _≤_}
+use Prim.Native.Nat.{ℕ, _*_, _%_, _^_, _<_, _≤_}
 use native.Mathlib.Nat.{mod-lt}
 use native.Mathlib.Omega.{arith}
 use borrow.Author.Differences.{ints}
@@ -23,7 +23,7 @@ use Rattle.transform.specs.Reads.{reads}
 use Rattle.transform.specs.Stages.{runs, unruns}
 use Rattle.transform.specs.Values.{sum, values}
 use Rattle.transform.proofs.Meaning.{runs-values, runs-long, runs-below}
-use Rattle.transform.proofs.Return.{twos, twos-is, back-runs, runs-back, unruns-below, unruns-long}
+use Rattle.transform.proofs.Return.{twos, twos-is, back-runs, runs-back, unruns-long}
 use Rattle.transform.proofs.Rows.{some}
 use Rattle.transform.proofs.Undo.{Times}
 
@@ -105,16 +105,16 @@ module _ (r : Ring) where
       let yl : length y ≡ r .degree = runs-long r (r .log) p ll (h .0) in
       let yb : Below Q y = runs-below r (r .log) p (h .1) in
       let ye : polyOf r (values r p) ≡ y =
-      ap (λ (i : List ℕ). polyOf r i) (sym (runs-values r p h)) ∙ sym (reduced-same (r .degree) Q y (yl, yb)) in
+          ap (λ (i : List ℕ). polyOf r i) (sym (runs-values r p h)) ∙ sym (reduced-same (r .degree) Q y (yl, yb)) in
       let u : List ℕ = unruns r (r .log) y in
       let ul : length u ≡ r .degree = unruns-long r (r .log) y ll yl in
       let all : Times Q (twos (r .log)) (r .degree) u p = back-runs r p h (r .log) 0 (omega arith) in
       let x : List ℕ = scaled r u in
       let xl : length x ≡ length u = scaled-long u in
       let times : Times Q (pos (r .inverse) *ℤ twos (r .log)) (length x) x p =
-      λ k b. cong-trans Q (scaled-times u k (omega arith))
-      (cong-trans Q (cong-scale Q (pos (r .inverse)) (all k (omega arith)))
-      (same Q _ _ (sym (*ℤ-assoc (pos (r .inverse)) (twos (r .log)) (pos (getD p k 0)))))) in
+          λ k b. cong-trans Q (scaled-times u k (omega arith))
+          (cong-trans Q (cong-scale Q (pos (r .inverse)) (all k (omega arith)))
+          (same Q _ _ (sym (*ℤ-assoc (pos (r .inverse)) (twos (r .log)) (pos (getD p k 0)))))) in
       ap (λ (i : List ℕ). scaled r (unruns r (r .log) i)) ye
       ∙ settle Q (pos (r .inverse) *ℤ twos (r .log)) x p (xl ∙ (ul ∙ sym (h .0))) (scaled-below u) (h .1) inverse-one times
 
@@ -128,13 +128,13 @@ module _ (r : Ring) where
       let ul : length u ≡ r .degree = unruns-long r (r .log) w ll (h .0) in
       let pe : p ≡ scaled r u = ap (λ (i : List ℕ). scaled r (unruns r (r .log) i)) (sym (reduced-same (r .degree) Q w h)) in
       let pt : Times Q (pos (r .inverse)) (r .degree) p u =
-      subst (λ (i : List ℕ). Times Q (pos (r .inverse)) (r .degree) i u) (sym pe) (λ k b. scaled-times u k (omega arith)) in
+          subst (λ (i : List ℕ). Times Q (pos (r .inverse)) (r .degree) i u) (sym pe) (λ k b. scaled-times u k (omega arith)) in
       let all : Times Q (twos (r .log) *ℤ pos (r .inverse)) (r .degree) (runs r (r .log) p) w =
-      runs-back r w p (pos (r .inverse)) h pt (r .log) 0 (omega arith) in
+          runs-back r w p (pos (r .inverse)) h pt (r .log) 0 (omega arith) in
       let y : List ℕ = runs r (r .log) p in
       let yl : length y ≡ r .degree = runs-long r (r .log) p ll (hp .0) in
       let one : Cong Q (twos (r .log) *ℤ pos (r .inverse)) (pos 1) =
-      cong-trans Q (same Q _ _ (*ℤ-comm (twos (r .log)) (pos (r .inverse)))) inverse-one in
+          cong-trans Q (same Q _ _ (*ℤ-comm (twos (r .log)) (pos (r .inverse)))) inverse-one in
       sym (runs-values r p hp)
       ∙ settle Q (twos (r .log) *ℤ pos (r .inverse)) y w (yl ∙ sym (h .0)) (runs-below r (r .log) p (hp .1)) (h .1) one
       (λ k b. all k (omega arith))

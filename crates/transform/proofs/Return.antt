@@ -7,7 +7,7 @@ use native.Mathlib.Omega.{arith}
 use borrow.Author.Differences.{ints}
 use lib.Pow.{pow-add, pow-pos}
 use lib.ListN.{length, getD}
-use lib.IntN.{ℤ, pos, negsuc, _+ℤ_, _*ℤ_, negℤ}
+use lib.IntN.{ℤ, pos, negsuc, _*ℤ_}
 use Rattle.algebra.specs.Ints.{Cong}
 use Rattle.algebra.proofs.Cong.{same, cong-sym, cong-trans, cong-mul}
 use Rattle.algebra.proofs.Ring.{*ℤ-assoc}
@@ -51,7 +51,7 @@ ends g m h j m0 e l =
     let all : h - 1 - j ≡ (g - 1 - j / m) * m + (m - 1 - j % m) = omega arith in
     let lt : m - 1 - j % m < m = omega arith in
     let f : (h - 1 - j) % m ≡ m - 1 - j % m =
-    ap (λ i. i % m) all ∙ (mul-add-mod-self-right (g - 1 - j / m) m (m - 1 - j % m) ∙ mod-eq-of-lt lt) in
+        ap (λ i. i % m) all ∙ (mul-add-mod-self-right (g - 1 - j / m) m (m - 1 - j % m) ∙ mod-eq-of-lt lt) in
     omega arith
 
 -- 2^s
@@ -88,14 +88,14 @@ module _ (r : Ring) where
       let jb : j < r .half = omega arith in
       let ib : length w - 1 - j < r .half = omega (arith, half-some r) in
       let en : j % 2 ^ s + (length w - 1 - j) % 2 ^ s + 1 ≡ 2 ^ s =
-      ap (λ i. j % 2 ^ s + (i - 1 - j) % 2 ^ s + 1) len ∙ ends g (2 ^ s) (r .half) j (pow-pos s) (reach-is r s l) jb in
+          ap (λ i. j % 2 ^ s + (i - 1 - j) % 2 ^ s + 1) len ∙ ends g (2 ^ s) (r .half) j (pow-pos s) (reach-is r s l) jb in
       let e1 : ℕ = g * (2 * mirror s (j % 2 ^ s) + 1) in
       let e2 : ℕ = g * (2 * mirror s ((length w - 1 - j) % 2 ^ s) + 1) in
       let total : e1 + e2 ≡ r .degree = pair-up (r .log) s (j % 2 ^ s) ((length w - 1 - j) % 2 ^ s) l en ∙ sym (r .size .0) in
       let c1 : Cong Q (pos (getD w j 0)) (pos (r .root ^ e1)) =
-      cong-trans Q (same Q _ _ (ap pos (root-at r s j l jb))) (mod-cong Q (r .root ^ e1)) in
+          cong-trans Q (same Q _ _ (ap pos (root-at r s j l jb))) (mod-cong Q (r .root ^ e1)) in
       let c2 : Cong Q (pos (getD w (length w - 1 - j) 0)) (pos (r .root ^ e2)) =
-      cong-trans Q (same Q _ _ (ap pos (root-at r s (length w - 1 - j) l ib))) (mod-cong Q (r .root ^ e2)) in
+          cong-trans Q (same Q _ _ (ap pos (root-at r s (length w - 1 - j) l ib))) (mod-cong Q (r .root ^ e2)) in
       let pw : r .root ^ e1 * r .root ^ e2 ≡ r .root ^ r .degree = sym (pow-add (r .root) e1 e2) ∙ ap (λ i. r .root ^ i) total in
       cong-trans Q (cong-mul Q c1 c2) (cong-trans Q (same Q _ _ (ap pos pw)) root-turns)
 
@@ -129,8 +129,8 @@ module _ (r : Ring) where
       let zb : Below Q z = unruns-below s all (runs-below r (r .log) f (h .1)) in
       let zl : length z ≡ r .degree = unruns-long s all (omega arith) (runs-long r (r .log) f (omega arith) (h .0)) in
       let un : Times Q (pos 2 *ℤ twos s) (2 * length w) (unstaged Q w z) (runs r t f) =
-      undo Q (some r) w (runs r t f) z (twos s) (row-anti t tl)
-      (λ k l. omega (arith, zb k (omega (arith, r .range .2)))) (λ k l. ih k (omega (arith, r .range .2))) in
+          undo Q (some r) w (runs r t f) z (twos s) (row-anti t tl)
+          (λ k l. omega (arith, zb k (omega (arith, r .range .2)))) (λ k l. ih k (omega (arith, r .range .2))) in
       subst (λ (i : ℕ). Times Q (pos 2 *ℤ twos s) (r .degree) (unstaged Q (rowOf i) z) (runs r t f)) te
       (λ k l. un k (omega (arith, r .range .2)))
 
@@ -150,13 +150,13 @@ module _ (r : Ring) where
       let u : List ℕ = unruns r t y in
       let se : r .log - suc t ≡ s = omega arith in
       let ih : Times Q (twos s *ℤ c) (r .degree) z (unstaged Q (rowOf (r .log - suc t)) u) =
-      runs-back y p c h times s (suc t) (omega arith) in
+          runs-back y p c h times s (suc t) (omega arith) in
       let ih′ : Times Q (twos s *ℤ c) (r .degree) z (unstaged Q w u) =
-      subst (λ (i : ℕ). Times Q (twos s *ℤ c) (r .degree) z (unstaged Q (rowOf i) u)) se ih in
+          subst (λ (i : ℕ). Times Q (twos s *ℤ c) (r .degree) z (unstaged Q (rowOf i) u)) se ih in
       let ub : Below Q u = unruns-below t y (h .1) in
       let ul : length u ≡ r .degree = unruns-long t y (omega arith) (h .0) in
       let re : Times Q (pos 2 *ℤ (twos s *ℤ c)) (2 * length w) (staged Q w z) u =
-      redo Q (some r) w u z (twos s *ℤ c) (row-anti s sl)
-      (λ k l. omega (arith, ub k (omega (arith, r .range .2)))) (λ k l. ih′ k (omega (arith, r .range .2))) in
+          redo Q (some r) w u z (twos s *ℤ c) (row-anti s sl)
+          (λ k l. omega (arith, ub k (omega (arith, r .range .2)))) (λ k l. ih′ k (omega (arith, r .range .2))) in
       λ k l. cong-trans Q (re k (omega (arith, r .range .2)))
       (same Q _ _ (ap (λ (i : ℤ). i *ℤ pos (getD u k 0)) (sym (*ℤ-assoc (pos 2) (twos s) c))))

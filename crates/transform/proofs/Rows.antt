@@ -1,15 +1,15 @@
 -- The rows of a ring's tables.
-use mathlib.Core.Path.{_≡_, refl, sym, _∙_, ap}
+use mathlib.Core.Path.{_≡_, sym, _∙_, ap}
 use mathlib.Core.List.{List}
-use Prim.Native.Nat.{ℕ, suc, _+_, _-_, _*_, _/_, _%_, _^_, _<_, _≤_}
-use native.Mathlib.Nat.{mod-lt, mod-mod, mul-le-mul-right, add-mul, one-mul, mul-add-div-right, mul-add-mod-self-right, mod-eq-of-lt, div-eq-of-lt, add-zero}
+use Prim.Native.Nat.{ℕ, _+_, _-_, _*_, _/_, _%_, _^_, _<_, _≤_}
+use native.Mathlib.Nat.{mod-lt, mod-mod, mul-le-mul-right, add-mul, one-mul, mul-add-div-right, mul-add-mod-self-right}
+use native.Mathlib.Nat.{mod-eq-of-lt, div-eq-of-lt, add-zero}
 use native.Mathlib.Omega.{arith}
-use lib.Pow.{pow-add, pow-pos}
+use lib.Pow.{pow-add}
 use lib.ListN.{length, getD, drop, length-take, length-drop}
 use lib.Seq.{getD-take, getD-drop}
 use Rattle.rings.specs.declared.ring.Ring.{Ring}
 use Rattle.rings.specs.Tables.{mirror, exponent}
-use Rattle.rings.proofs.Mod.{Same}
 use Rattle.rings.proofs.Built.{table-fits}
 use Rattle.transform.specs.Stages.{Quotients, row}
 use Rattle.transform.proofs.Holding.{Roots}
@@ -81,7 +81,7 @@ module _ (r : Ring) where
   row-quotients s w ws l e f len j b =
       let jb : j < r .half = omega arith in
       let x : getD w j 0 ≡ r .root ^ (2 ^ (r .log - (s + 1)) * (2 * mirror s (j % 2 ^ s) + 1)) % r .modulus =
-      ap (λ i. getD i j 0) e ∙ root-at s j l jb in
+          ap (λ i. getD i j 0) e ∙ root-at s j l jb in
       let y : getD w j 0 ≡ getD (r .roots) (s * r .half + j) 0 = ap (λ i. getD i j 0) e ∙ row-at s (r .half) (r .roots) j jb in
       let z : getD ws j 0 ≡ getD (r .quotients) (s * r .half + j) 0 = ap (λ i. getD i j 0) f ∙ row-at s (r .half) (r .quotients) j jb in (
         omega (arith, x, mod-lt (r .root ^ (2 ^ (r .log - (s + 1)) * (2 * mirror s (j % 2 ^ s) + 1))) some),

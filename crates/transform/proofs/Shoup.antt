@@ -1,7 +1,8 @@
 -- One conditional subtraction, and Shoup's product: both are exact.
-use mathlib.Core.Path.{_≡_, refl, sym, _∙_, ap}
+use mathlib.Core.Path.{_≡_, sym, _∙_, ap}
 use Prim.Native.Nat.{ℕ, _+_, _-_, _*_, _/_, _%_, _<_, _≤_}
-use native.Mathlib.Nat.{mod-eq-of-lt, mod-eq-sub-mod, mul-le-mul-left, mul-le-mul-right, mul-lt-mul-of-pos-right, mul-add, add-mul, mul-assoc, div-mul-le-self, lt-div-mul-add, add-mul-mod-self-right}
+use native.Mathlib.Nat.{mod-eq-of-lt, mod-eq-sub-mod, mul-le-mul-left, mul-le-mul-right, mul-lt-mul-of-pos-right}
+use native.Mathlib.Nat.{mul-add, add-mul, mul-assoc, div-mul-le-self, lt-div-mul-add, add-mul-mod-self-right}
 use native.Mathlib.Omega.{arith}
 
 once-low : (x Q : ℕ) → x < Q → x ≡ x % Q
@@ -32,7 +33,7 @@ subtract-high u v Q a b f s =
     e ∙ once-high (u + (Q - v)) Q (omega arith) (omega arith)
 
 pub subtract-low : (u v Q : ℕ) → u < Q → v < Q → Q < 2147483648 → 2147483648 ≤ wrapped u v
-  → (wrapped u v + Q) % 4294967296 ≡ (u + (Q - v)) % Q
+    → (wrapped u v + Q) % 4294967296 ≡ (u + (Q - v)) % Q
 subtract-low u v Q a b f s =
     let h : u < v = omega arith in
     let e : (wrapped u v + Q) % 4294967296 ≡ u + (Q - v) = omega arith in
@@ -83,7 +84,7 @@ nearly x w s Q hw hq hx e =
     let b : (h * Q ≤ x * w) × (x * w < h * Q + (Q + Q)) = shoup-bounds x w s Q q0 hx e in
     let top : x * w < h * Q + 4294967296 = omega arith in
     let d : (x * w % 4294967296 + (4294967296 - h * Q % 4294967296)) % 4294967296 ≡ x * w - h * Q =
-    wrap-sub (x * w) (h * Q) (b .0) top in
+        wrap-sub (x * w) (h * Q) (b .0) top in
     let whole : x * w ≡ (x * w - h * Q) + h * Q = omega arith in
     record {
       low = omega arith;

@@ -1,6 +1,6 @@
 -- Sums of numbers, up to remainders.
 use mathlib.Core.Path.{_≡_, refl, sym, _∙_, ap}
-use Prim.Native.Nat.{ℕ, zero, suc, _+_, _*_, _%_, _^_, _<_}
+use Prim.Native.Nat.{ℕ, zero, suc, _+_, _*_, _<_}
 use native.Mathlib.Nat.{mul-add, add-suc, add-zero, mul-zero}
 use native.Mathlib.Omega.{arith}
 use Rattle.rings.proofs.Mod.{Same, same-add}

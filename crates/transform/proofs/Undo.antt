@@ -1,5 +1,5 @@
 -- A stage and its way back, as congruences.
-use mathlib.Core.Path.{_≡_, refl, sym, _∙_, ap}
+use mathlib.Core.Path.{_≡_, refl, ap}
 use mathlib.Core.List.{List, [], _∷_}
 use Prim.Native.Nat.{ℕ, _+_, _-_, _*_, _%_, _<_, _≤_}
 use native.Mathlib.Nat.{mod-lt}
@@ -104,12 +104,12 @@ module _ (Q : ℕ) (q0 : 0 < Q) where
           let z1 : ℤ = pos (getD z (2 * j + 1) 0) in
           let f : getD z (2 * j) 0 ≤ Q = fits (2 * j) (omega arith) in
           let hu : Cong Q z0 (c *ℤ (a +ℤ b *ℤ v)) =
-          cong-trans Q (times (2 * j) (omega arith)) (cong-scale Q c (is (staged-is Q w x j h .0) (plus-is w x j))) in
+              cong-trans Q (times (2 * j) (omega arith)) (cong-scale Q c (is (staged-is Q w x j h .0) (plus-is w x j))) in
           let hv : Cong Q z1 (c *ℤ (a +ℤ negℤ (b *ℤ v))) =
-          cong-trans Q (times (2 * j + 1) (omega arith)) (cong-scale Q c (is (staged-is Q w x j h .1) (minus-is w x j))) in (
+              cong-trans Q (times (2 * j + 1) (omega arith)) (cong-scale Q c (is (staged-is Q w x j h .1) (minus-is w x j))) in (
             is (unstaged-is Q w z j h .0) (cong-trans Q (sums-is z j) (low-is z0 z1 a (b *ℤ v) c hu hv)),
             is (unstaged-is Q w z j h .1) (cong-trans Q (diffs-is w z j f) (high-is z0 z1 a b v v′ c hu hv (anti j h))),
-          )
+              )
 
   -- ---- a stage of c times the way back is 2 c times what it came from
   pub redo : (w y z : List ℕ) (c : ℤ) → Anti Q w → ((k : ℕ) → k < 2 * length w → getD y k 0 ≤ Q)
@@ -118,24 +118,24 @@ module _ (Q : ℕ) (q0 : 0 < Q) where
       by-pair (length w) (λ k. Cong Q (pos (getD (staged Q w z) k 0)) (pos 2 *ℤ c *ℤ pos (getD y k 0))) each
     where
       each : (j : ℕ) → j < length w
-          → Cong Q (pos (getD (staged Q w z) (2 * j) 0)) (pos 2 *ℤ c *ℤ pos (getD y (2 * j) 0))
-          × Cong Q (pos (getD (staged Q w z) (2 * j + 1) 0)) (pos 2 *ℤ c *ℤ pos (getD y (2 * j + 1) 0))
+              → Cong Q (pos (getD (staged Q w z) (2 * j) 0)) (pos 2 *ℤ c *ℤ pos (getD y (2 * j) 0))
+              × Cong Q (pos (getD (staged Q w z) (2 * j + 1) 0)) (pos 2 *ℤ c *ℤ pos (getD y (2 * j + 1) 0))
       each j h =
-          let u : ℤ = pos (getD y (2 * j) 0) in
+              let u : ℤ = pos (getD y (2 * j) 0) in
           let v : ℤ = pos (getD y (2 * j + 1) 0) in
           let a : ℤ = pos (getD w j 0) in
           let a′ : ℤ = pos (getD w (length w - 1 - j) 0) in
           let d : ℤ = v +ℤ negℤ u in
           let f : getD y (2 * j) 0 ≤ Q = fits (2 * j) (omega arith) in
           let lo : Cong Q (pos (getD z j 0)) (c *ℤ (u +ℤ v)) =
-          cong-trans Q (times j (omega arith)) (cong-scale Q c (is (unstaged-is Q w y j h .0) (sums-is y j))) in
+              cong-trans Q (times j (omega arith)) (cong-scale Q c (is (unstaged-is Q w y j h .0) (sums-is y j))) in
           let hi : Cong Q (pos (getD z (j + length w) 0)) (c *ℤ (d *ℤ a′)) =
-          cong-trans Q (times (j + length w) (omega arith)) (cong-scale Q c (is (unstaged-is Q w y j h .1) (diffs-is w y j f))) in
+              cong-trans Q (times (j + length w) (omega arith)) (cong-scale Q c (is (unstaged-is Q w y j h .1) (diffs-is w y j f))) in
           let ha : Cong Q (pos (getD z (j + length w) 0) *ℤ a) (c *ℤ d *ℤ negsuc 0) =
-          cong-trans Q (cong-mul Q hi (cong-refl Q a))
-          (cong-trans Q (same Q _ _ (regroup c d a′ a)) (cong-scale Q (c *ℤ d) (anti j h))) in (
+              cong-trans Q (cong-mul Q hi (cong-refl Q a))
+              (cong-trans Q (same Q _ _ (regroup c d a′ a)) (cong-scale Q (c *ℤ d) (anti j h))) in (
             is (staged-is Q w z j h .0)
                 (cong-trans Q (plus-is w z j) (cong-trans Q (cong-add Q lo ha) (same Q _ _ (half-sum c u v)))),
             is (staged-is Q w z j h .1)
                 (cong-trans Q (minus-is w z j) (cong-trans Q (cong-add Q lo (cong-neg Q ha)) (same Q _ _ (half-less c u v)))),
-          )
+              )

@@ -23,6 +23,10 @@ fusedWord Q c a b = (c + a * b % Q) % Q
 unfoldable pub pointwise : ℕ → ℕ → List ℕ → List ℕ → List ℕ → List ℕ
 pointwise n Q c a b = map (λ k. fusedWord Q (getD c k 0) (getD a k 0) (getD b k 0)) (counting 0 n)
 
+-- the same at each place of c, in a ring
+abbrev pub fusedAt : Ring → List ℕ → List ℕ → List ℕ → List ℕ
+fusedAt r c a b = pointwise (length c) (r .modulus) c a b
+
 -- each word times 1 / N
 unfoldable pub scaled : Ring → List ℕ → List ℕ
 scaled r y = map (λ k. getD y k 0 * r .inverse % r .modulus) (counting 0 (length y))

@@ -19,4 +19,4 @@ reads r w = scaled r (unruns r (r .log) (polyOf r w))
 -- that is the polynomial whose value at ψ^(2 i + 1) is the word of that odd number's place
 abbrev pub Interpolates : Type 0
 Interpolates = (r : Ring) (w : List ℕ)
-  → reads r w ≡ words (r .degree) (r .modulus) (interpolated (r .modulus) (r .degree) (r .log) (pos (r .root)) (λ i. pos (getD w (mirror (r .log) i) 0)))
+    → reads r w ≡ words (r .degree) (r .modulus) (interpolated (r .modulus) (r .degree) (r .log) (pos (r .root)) (λ i. pos (getD w (mirror (r .log) i) 0)))

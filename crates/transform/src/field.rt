@@ -19,7 +19,11 @@ pub fn subtract(u: u32, v: u32, modulus: u32) -> u32
     ensures { λ r. ⌜ r ≡ (u + (modulus - v)) % modulus ⌝ }
 {
     let less = u.wrapping_sub(v);
-    if less < 0x8000_0000 { less } else { less.wrapping_add(modulus) }
+    if less < 0x8000_0000 {
+        less
+    } else {
+        less.wrapping_add(modulus)
+    }
 }
 
 // x times a factor whose quotient is known, with no division.

@@ -4,7 +4,7 @@ ghost use mathlib.Core.Bool.{true};
 ghost use lib.ListN.{length, getD};
 ghost use Rattle.kernels.specs.Polynomials.{Below};
 ghost use Rattle.kernels.specs.Reading.{folded};
-ghost use Rattle.transform.specs.Pointwise.{Barrett, fusedWord, pointwise, scaled};
+ghost use Rattle.transform.specs.Pointwise.{Barrett, fusedWord, fusedAt, scaled};
 ghost use Rattle.transform.specs.Reads.{reads};
 ghost use Rattle.transform.specs.Values.{values};
 use crate::field;
@@ -38,7 +38,7 @@ fn fuse_low(ring: &Ring, acc: &mut [u32], left: &[u32], right: &[u32])
     requires first { ⌜ Below (now ring .modulus) (now acc) ⌝ }
     requires second { ⌜ Below (now ring .modulus) (now left) ⌝ }
     requires third { ⌜ Below (now ring .modulus) (now right) ⌝ }
-    ensures { λ _. ⌜ now (acc .exit) ≡ pointwise (length (now (acc .entry))) (now (ring .entry) .modulus) (now (acc .entry)) (now (left .entry)) (now (right .entry)) ⌝ }
+    ensures { λ _. ⌜ now (acc .exit) ≡ fusedAt (now (ring .entry)) (now (acc .entry)) (now (left .entry)) (now (right .entry)) ⌝ }
 {
     let modulus = ring.modulus;
     let mu = ring.mu;
@@ -52,7 +52,7 @@ fn fuse_low(ring: &Ring, acc: &mut [u32], left: &[u32], right: &[u32])
 fn fuse_any(ring: &Ring, acc: &mut [u32], left: &[u32], right: &[u32])
     requires one { ⌜ length (now left) ≡ length (now acc) ⌝ }
     requires other { ⌜ length (now right) ≡ length (now acc) ⌝ }
-    ensures { λ _. ⌜ now (acc .exit) ≡ pointwise (length (now (acc .entry))) (now (ring .entry) .modulus) (now (acc .entry)) (now (left .entry)) (now (right .entry)) ⌝ }
+    ensures { λ _. ⌜ now (acc .exit) ≡ fusedAt (now (ring .entry)) (now (acc .entry)) (now (left .entry)) (now (right .entry)) ⌝ }
 {
     let modulus = ring.modulus as u64;
     for i in 0..acc.len() {
@@ -79,7 +79,7 @@ fn all_reduced(modulus: u32, acc: &[u32], left: &[u32], right: &[u32]) -> bool
 fn fuse(ring: &Ring, acc: &mut [u32], left: &[u32], right: &[u32])
     requires one { ⌜ length (now left) ≡ length (now acc) ⌝ }
     requires other { ⌜ length (now right) ≡ length (now acc) ⌝ }
-    ensures { λ _. ⌜ now (acc .exit) ≡ pointwise (length (now (acc .entry))) (now (ring .entry) .modulus) (now (acc .entry)) (now (left .entry)) (now (right .entry)) ⌝ }
+    ensures { λ _. ⌜ now (acc .exit) ≡ fusedAt (now (ring .entry)) (now (acc .entry)) (now (left .entry)) (now (right .entry)) ⌝ }
 {
     if all_reduced(ring.modulus, acc, left, right) {
         fuse_low(ring, acc, left, right);

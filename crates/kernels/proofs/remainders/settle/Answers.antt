@@ -17,7 +17,7 @@ returns-then-not-all-below c =
 
 pub returns-else-not-all-below : need.returns-else-not-all-below
 returns-else-not-all-below c =
-    let all = c .all-below .ensures .0 (c .if-not-all-below .left) in
+    let all = c .all-below .ensures (c .if-not-all-below .left) in
     record {
       same = reduced-same (length (c .args .words .now)) (c .args .modulus) (c .args .words .now) (refl, all);
       below = all;

@@ -1,6 +1,6 @@
-use mathlib.Core.Path.{_≡_, refl, sym, ap, subst}
+use mathlib.Core.Path.{_≡_, refl, sym, subst}
 use mathlib.Core.List.{List}
-use Prim.Native.Nat.{ℕ, _<_}
+use Prim.Native.Nat.{ℕ}
 use native.Mathlib.Omega.{arith}
 use native.Mathlib.Nat.{mod-lt}
 use lib.ListN.{getD, length}
@@ -21,15 +21,15 @@ loop-i-again c =
     let k : ℕ = c .args .k in
     let xs : List ℕ = c .args .right .now in
     let term : Cong Q (pos (c .shifted .result)) (wrapped (length xs) i (coeffs xs) k) =
-    subst (λ (t : ℕ). Cong Q (pos t) (wrapped (length xs) i (coeffs xs) k)) (sym (c .shifted .ensures)) (brought-cong Q (c .pre .some) xs i k) in (
+        subst (λ (t : ℕ). Cong Q (pos t) (wrapped (length xs) i (coeffs xs) k)) (sym (c .shifted .ensures)) (brought-cong Q (c .pre .some) xs i k) in (
       mod-lt _ (c .pre .some),
       one-more Q (c .pre .some) (c .loop-i .sum) (getD (c .args .left .now) i 0) (c .shifted .result) i (pos (c .args .start))
           (λ j. coeffs (c .args .left .now) j *ℤ wrapped (length xs) j (coeffs xs) k) _ refl (c .loop-i .inv .1) term,
-    )
+        )
 
 pub returns : need.returns
 returns c =
-    let Q : ℕ = c .args .modulus in
+        let Q : ℕ = c .args .modulus in
     let ys : List ℕ = c .args .left .now in
     let xs : List ℕ = c .args .right .now in
     let e : c .loop-i .i ≡ length xs = omega arith in

@@ -8,5 +8,6 @@ use Rattle.kernels.proofs.schoolbook.multiply.Given as given
 
 abbrev pub Inv-loop-k : given.InvT-loop-k
 Inv-loop-k l =
-    ((j : ℕ) → j < l .k → getD (l .acc) j 0 ≡ wordOf (l .modulus) (pos (getD (l .entry .acc) j 0) +ℤ mul (length (l .right)) (coeffs (l .left)) (coeffs (l .right)) j))
+    ((j : ℕ) → j < l .k → getD (l .acc) j 0
+        ≡ wordOf (l .modulus) (pos (getD (l .entry .acc) j 0) +ℤ mul (length (l .right)) (coeffs (l .left)) (coeffs (l .right)) j))
     × ((j : ℕ) → l .k ≤ j → getD (l .acc) j 0 ≡ getD (l .entry .acc) j 0)

@@ -1,8 +1,6 @@
-use mathlib.Core.Path.{_≡_, _∙_, ap}
-use mathlib.Core.List.{List}
-use Prim.Native.Nat.{ℕ, _*_, _/_, _%_, _^_, _<_, _≤_}
+use mathlib.Core.Path.{_∙_, ap}
+use Prim.Native.Nat.{ℕ, _*_, _/_, _%_, _<_}
 use native.Mathlib.Omega.{arith}
-use lib.ListN.{length, getD}
 use Rattle.rings.proofs.Built.{halved, table-fits, roots-are, roots-low}
 use Rattle.rings.proofs.Bits.{bits-few, bits-strict, square-fits}
 use Rattle.rings.proofs.build.build.Needs as need
@@ -42,9 +40,9 @@ ghost-result c =
     let i = c .inverse-of-inverse in
     let one = ap (λ n. i .result * n % Q) (c .pre .size) ∙ i .ensures .one in
     let are =
-    roots-are Q (c .args .root) (c .args .log) (c .args .degree / 2) (c .args .powers .now)
-    (c .root-table-roots .result) (h .half) (omega (arith, c .pre .whole, h .twice)) (c .pre .table)
-    (c .root-table-roots .ensures .same) in (
+        roots-are Q (c .args .root) (c .args .log) (c .args .degree / 2) (c .args .powers .now)
+        (c .root-table-roots .result) (h .half) (omega (arith, c .pre .whole, h .twice)) (c .pre .table)
+        (c .root-table-roots .ensures .same) in (
       (c .pre .size, h .half, c .pre .some, c .pre .few),
       (
         (h .low, h .high, h .twice),
@@ -73,4 +71,4 @@ ghost-result c =
           ),
         ),
       ),
-    )
+        )

@@ -1,5 +1,5 @@
-use mathlib.Core.Path.{_≡_, ap}
-use Prim.Native.Nat.{ℕ, _/_}
+use mathlib.Core.Path.{ap}
+use Prim.Native.Nat.{_/_}
 use native.Mathlib.Omega.{arith}
 use Rattle.rings.proofs.Bits.{shifted, mu-low}
 use Rattle.rings.proofs.build.mu_of.Needs as need

@@ -1,5 +1,4 @@
-use mathlib.Core.Path.{_≡_, sym, subst}
-use borrow.Author.Needs.{needs}
+use mathlib.Core.Path.{sym, subst}
 use Rattle.std.specs.declared.option.Option.{Option}
 use Rattle.faults.specs.declared.fault.Fault.{Fault}
 use Rattle.faults.specs.Least.{Least}

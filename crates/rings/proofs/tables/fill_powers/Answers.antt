@@ -1,9 +1,9 @@
-use mathlib.Core.Path.{_≡_, refl}
-use Prim.Native.Nat.{ℕ, _+_, _*_, _%_, _^_, _<_}
+use mathlib.Core.Path.{refl}
+use Prim.Native.Nat.{_%_, _^_, _<_}
 use native.Mathlib.Nat.{mod-lt}
 use native.Mathlib.Omega.{arith}
 use mathlib.Core.Logic.{_≢_}
-use lib.ListN.{length, getD}
+use lib.ListN.{length}
 use lib.Seq.{getD-set-same, getD-set-other}
 use borrow.Author.Count.{below-more}
 use Rattle.rings.proofs.Mod.{power-next, power-first}
@@ -13,7 +13,7 @@ pub cast-power : need.cast-power
 cast-power c =
     let q0 : 0 < c .args .modulus = omega (arith, c .pre) in
     let l : c .args .base ^ c .loop-e .e % c .args .modulus < c .args .modulus =
-    mod-lt (c .args .base ^ c .loop-e .e) q0 in
+        mod-lt (c .args .base ^ c .loop-e .e) q0 in
     omega (arith, l, c .loop-e .inv .0)
 
 pub loop-e-holds : need.loop-e-holds

@@ -1,7 +1,7 @@
 use mathlib.Core.Path.{_≡_}
 use Prim.Native.Nat.{_-_, _*_, _%_, _<_}
 use native.Mathlib.Omega.{arith}
-use Rattle.transform.proofs.Barrett.{Guessed, guessed, guess, Less, not-more, remains}
+use Rattle.transform.proofs.Barrett.{Guessed, guessed, guess, not-more, remains}
 use Rattle.transform.proofs.field.barrett.Needs as need
 
 here : (c : need.Start) → Guessed (c .args .t) (c .args .modulus) (c .args .mu) (c .args .bits)
@@ -33,11 +33,11 @@ reduce-wide-requires c κs = record { left = omega (arith, here c .high); right 
 pub reduce-wide-requires-2 : need.reduce-wide-requires-2
 reduce-wide-requires-2 c κs =
     let g =
-    guessed (c .args .t) (c .args .modulus) (c .args .mu) (c .args .bits) (c .pre .few) (c .pre .width) (c .pre .fits)
-    (c .pre .quotient) (c .pre .below) (c .pre .square) (omega arith) in
+        guessed (c .args .t) (c .args .modulus) (c .args .mu) (c .args .bits) (c .pre .few) (c .pre .width) (c .pre .fits)
+        (c .pre .quotient) (c .pre .below) (c .pre .square) (omega arith) in
     let s =
-    not-more (c .args .t - guess (c .args .t) (c .args .mu) (c .args .bits) * c .args .modulus) (c .args .modulus)
-    (c .reduce-wide .result) (record { low = c .reduce-wide .ensures .low; high = c .reduce-wide .ensures .high }) in
+        not-more (c .args .t - guess (c .args .t) (c .args .mu) (c .args .bits) * c .args .modulus) (c .args .modulus)
+        (c .reduce-wide .result) (record { low = c .reduce-wide .ensures .low; high = c .reduce-wide .ensures .high }) in
     record { left = omega (arith, g .high, s); right = omega (arith, c .pre .fits) }
 
 all : (c : need.After-reduce-wide-2)
