@@ -1,3 +1,12 @@
 pub mod Fit
 pub mod Forms
 pub mod Meaning
+pub mod Held
+pub mod Rest
+pub mod Layout
+pub mod External
+pub mod Mixing
+pub mod Steps
+pub mod Checking
+pub mod Making
+pub mod TakeLaws

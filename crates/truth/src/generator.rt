@@ -23,21 +23,26 @@ impl Generator {
     }
 
     // Numbers below the bound.
-    pub fn fill_below(&mut self, bound: u32, out: &mut [i64]) {
+    pub fn fill_below(&mut self, bound: u32, out: &mut [i32])
+        requires { ⌜ bound ≤ 2 ^ 20 ⌝ }
+    {
         for i in 0..out.len() {
             out[i] = self.below(bound);
         }
     }
 
     // A number below the bound.
-    fn below(&mut self, bound: u32) -> i64 {
-        (self.advance() % bound.max(1)) as i64
+    fn below(&mut self, bound: u32) -> i32
+        requires { ⌜ bound ≤ 2 ^ 20 ⌝ }
+    {
+        (self.advance() % bound.max(1)) as i32
     }
 
     // The samples of the key maker: noises of polynomials, and for each row its random words and its noise.
-    pub fn fill_samples(&mut self, numbers: &Numbers, noises: usize, out: &mut [i64])
+    pub fn fill_samples(&mut self, numbers: &Numbers, noises: usize, out: &mut [i32])
         requires noise { ⌜ now numbers .noise ≤ 2 ^ 16 ⌝ }
         requires jitter { ⌜ now numbers .jitter ≤ 2 ^ 16 ⌝ }
+        requires switch { ⌜ now numbers .switch ≤ 2 ^ 20 ⌝ }
     {
         let length = numbers.dimension as usize + 1;
         for i in 0..out.len() {
@@ -52,9 +57,9 @@ impl Generator {
     }
 
     // A number from -bound to bound.
-    pub fn within(&mut self, bound: u32) -> i64
+    pub fn within(&mut self, bound: u32) -> i32
         requires { ⌜ bound ≤ 2 ^ 16 ⌝ }
     {
-        (self.advance() % (2 * bound + 1)) as i64 - bound as i64
+        (self.advance() % (2 * bound + 1)) as i32 - bound as i32
     }
 }

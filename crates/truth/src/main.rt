@@ -1,22 +1,18 @@
-mod gate;
 mod generator;
-mod kernel;
 mod lengths;
 mod maker;
 mod modular;
 mod product;
 mod seal;
 mod secrets;
-mod stages;
-mod sweep;
 mod toy;
 mod world;
 
-use crate::gate::letter_of;
 use crate::world::Failure;
 use crate::world::FailureFromFault;
 use crate::world::FailureFromOutput;
 use crate::world::World;
+use gate::letter::letter_of;
 
 // Prints for each gate its letter and what it gives on 00, 01, 10 and 11, all of it computed under encryption.
 fn main(rt: LibcRuntime) -> Result<(), Failure> {

@@ -1,9 +1,6 @@
 ghost use mathlib.Core.Path.{_≡_};
 ghost use Prim.Native.Nat.{_+_, _*_, _<_, _≤_, _^_};
 ghost use lib.ListN.{length};
-use crate::kernel::Kernel;
-use crate::kernel::Plain;
-use crate::kernel::PlainKernel;
 use crate::lengths::area;
 use crate::lengths::digit_words;
 use crate::lengths::expect_lengths;
@@ -15,11 +12,14 @@ use crate::product::row_start;
 use crate::secrets::check_sample;
 use crate::secrets::check_secret;
 use crate::secrets::masked;
-use crate::sweep::Sweep;
 use faults::fault::Fault;
 use faults::fault::Layer;
 use rings::ring::Ring;
+use kernels::kernel::Kernel;
+use kernels::plain::Plain;
+use kernels::plain::PlainKernel;
 use set::checked::Set;
+use sweeps::sweep::Sweep;
 use words::guard::Wiped;
 
 // How many samples the noises of the start key and of the selectors take, and how many the switch rows.
@@ -40,10 +40,10 @@ pub fn sample_counts<S: Sweep>(set: &Set) -> (usize, usize)
 // and for each row its random words and its noise.
 pub fn make_keys<S: Sweep>(
     set: &Set,
-    f: &[i64],
+    f: &[i32],
     inverse: &[u32],
-    s: &[i64],
-    samples: &[i64],
+    s: &[i32],
+    samples: &[i32],
     start: &mut [u32],
     selectors: &mut [u32],
     rows: &mut [u32],
@@ -64,24 +64,25 @@ pub fn make_keys<S: Sweep>(
         product.words.len(),
     ];
     expect_lengths(Layer::Secrets, &lengths, &right_lengths::<S>(set))?;
-    check_secret(0, f, -1, 1, set.numbers().weight)?;
-    check_secret(2, s, 0, 1, set.numbers().ones)?;
-    check_inverse(set.ring(), f, inverse, noise.words, product.words)?;
+    check_secret(0, f, -1, 1, set.within.numbers.weight)?;
+    check_secret(2, s, 0, 1, set.within.numbers.ones)?;
+    check_inverse(&set.ring, f, inverse, noise.words, product.words)?;
     let (noise_count, row_words) = sample_counts::<S>(set);
     let noises = cut(samples, 0, noise_count)?;
-    check_noises(noises, set.numbers().noise)?;
+    check_noises(noises, set.within.numbers.noise)?;
     check_rows(set, noise_count, samples)?;
+    product.words.fill(0);
     make_key(
         set,
         inverse,
         cut(noises, 0, start.len())?,
         1,
-        0,
+        product.words,
         start,
         noise.words,
     )?;
     let others = cut(noises, start.len(), selectors.len())?;
-    make_selectors::<S>(set, inverse, s, others, selectors, noise.words)?;
+    make_selectors::<S>(set, inverse, s, others, selectors, noise.words, product.words)?;
     make_rows(set, f, s, cut(samples, noise_count, row_words)?, rows)
 }
 
@@ -105,7 +106,7 @@ fn right_lengths<S: Sweep>(set: &Set) -> [usize; 9] {
 }
 
 // The samples from a place on, as many as asked for.
-fn cut(samples: &[i64], at: usize, count: usize) -> Result<&[i64], Fault> {
+fn cut(samples: &[i32], at: usize, count: usize) -> Result<&[i32], Fault> {
     if at > samples.len() || samples.len() - at < count {
         return Err(wrong_length(3, Layer::Secrets));
     }
@@ -115,7 +116,7 @@ fn cut(samples: &[i64], at: usize, count: usize) -> Result<&[i64], Fault> {
 // Refuses an inverse whose product with f is not 1.
 fn check_inverse(
     ring: &Ring,
-    f: &[i64],
+    f: &[i32],
     inverse: &[u32],
     words: &mut [u32],
     product: &mut [u32],
@@ -133,12 +134,12 @@ fn check_inverse(
 }
 
 // The words of signed numbers.
-fn put_residues(numbers: &[i64], modulus: u32, words: &mut [u32])
+fn put_residues(numbers: &[i32], modulus: u32, words: &mut [u32])
     requires modulus { ⌜ 0 < modulus ⌝ }
     requires words { ⌜ length (now words) ≡ length (now numbers) ⌝ }
 {
     for i in 0..numbers.len() {
-        words[i] = residue(numbers[i], modulus);
+        words[i] = residue(numbers[i] as i64, modulus);
     }
 }
 
@@ -158,8 +159,10 @@ fn check_unit(polynomial: &[u32]) -> Result<(), Fault>
 }
 
 // Refuses a noise outside -bound to bound.
-fn check_noises(noises: &[i64], bound: u32) -> Result<(), Fault> {
-    let bound = bound as i64;
+fn check_noises(noises: &[i32], bound: u32) -> Result<(), Fault>
+    requires { ⌜ bound ≤ 1024 ⌝ }
+{
+    let bound = bound as i32;
     for i in 0..noises.len() {
         check_sample(3, i, noises[i], -bound, bound)?;
     }
@@ -168,10 +171,10 @@ fn check_noises(noises: &[i64], bound: u32) -> Result<(), Fault> {
 
 // Refuses a random word of a row that is not below the switch modulus, and a noise outside its bound.
 // The rows' samples follow the noises of the polynomials.
-fn check_rows(set: &Set, noises: usize, samples: &[i64]) -> Result<(), Fault> {
+fn check_rows(set: &Set, noises: usize, samples: &[i32]) -> Result<(), Fault> {
     let n = set.dimension();
-    let top = set.middle().get() as i64 - 1;
-    let jitter = set.numbers().jitter as i64;
+    let top = set.middle().get() as i32 - 1;
+    let jitter = set.within.numbers.jitter as i32;
     for i in noises..samples.len() {
         if (i - noises) % (n + 1) < n {
             check_sample(3, i, samples[i], 0, top)?;
@@ -186,10 +189,11 @@ fn check_rows(set: &Set, noises: usize, samples: &[i64]) -> Result<(), Fault> {
 fn make_selectors<S: Sweep>(
     set: &Set,
     inverse: &[u32],
-    s: &[i64],
-    noises: &[i64],
+    s: &[i32],
+    noises: &[i32],
     selectors: &mut [u32],
     noise: &mut [u32],
+    message: &mut [u32],
 ) -> Result<(), Fault> {
     let size = digit_words(set.digits(), set.degree());
     let count = S::selectors(&set.within);
@@ -201,12 +205,13 @@ fn make_selectors<S: Sweep>(
     }
     for j in 0..count {
         let at = row_start(j, count, size);
+        S::tell(&set.within, s, j, message)?;
         make_key(
             set,
             inverse,
             &noises[at..at + size],
             0,
-            S::message(s, j),
+            message,
             &mut selectors[at..at + size],
             noise,
         )?;
@@ -218,15 +223,15 @@ fn make_selectors<S: Sweep>(
 fn make_key(
     set: &Set,
     inverse: &[u32],
-    noises: &[i64],
+    noises: &[i32],
     start: u32,
-    message: u32,
+    message: &[u32],
     key: &mut [u32],
     noise: &mut [u32],
 ) -> Result<(), Fault> {
     let n = set.degree();
     let count = set.digits();
-    let modulus = set.ring().modulus();
+    let modulus = set.ring.modulus();
     if noises.len() != digit_words(count, n) {
         return Err(wrong_length(3, Layer::Secrets));
     }
@@ -236,18 +241,17 @@ fn make_key(
     if noise.len() != n {
         return Err(wrong_length(7, Layer::Secrets));
     }
-    let mut weight = set.numbers().dropped % modulus;
+    if message.len() != n {
+        return Err(wrong_length(8, Layer::Secrets));
+    }
+    let mut weight = set.within.numbers.dropped % modulus;
     for i in 0..count {
         let at = row_start(i, count, n);
         put_residues(&noises[at..at + n], modulus, noise);
         add_constant(noise, times(start, weight, modulus), modulus);
-        multiply(set.ring(), noise, inverse, &mut key[at..at + n])?;
-        add_constant(
-            &mut key[at..at + n],
-            times(message, weight, modulus),
-            modulus,
-        );
-        weight = times(weight, set.numbers().base, modulus);
+        multiply(&set.ring, noise, inverse, &mut key[at..at + n])?;
+        add_scaled(&mut key[at..at + n], message, weight, modulus);
+        weight = times(weight, set.within.numbers.base, modulus);
     }
     Ok(())
 }
@@ -259,6 +263,16 @@ fn add_constant(polynomial: &mut [u32], number: u32, modulus: u32)
     polynomial[0] = plus(polynomial[0], number, modulus);
 }
 
+// Adds a multiple of one polynomial to another.
+fn add_scaled(polynomial: &mut [u32], other: &[u32], factor: u32, modulus: u32)
+    requires modulus { ⌜ 0 < modulus ⌝ }
+    requires other { ⌜ length (now other) ≡ length (now polynomial) ⌝ }
+{
+    for i in 0..polynomial.len() {
+        polynomial[i] = plus(polynomial[i], times(factor, other[i], modulus), modulus);
+    }
+}
+
 // The product of two polynomials.
 fn multiply(ring: &Ring, a: &[u32], b: &[u32], out: &mut [u32]) -> Result<(), Fault> {
     out.fill(0);
@@ -268,9 +282,9 @@ fn multiply(ring: &Ring, a: &[u32], b: &[u32], out: &mut [u32]) -> Result<(), Fa
 // Makes the switch rows.
 fn make_rows(
     set: &Set,
-    f: &[i64],
-    s: &[i64],
-    samples: &[i64],
+    f: &[i32],
+    s: &[i32],
+    samples: &[i32],
     rows: &mut [u32],
 ) -> Result<(), Fault> {
     let count = set.places();
@@ -292,7 +306,7 @@ fn make_rows(
         f,
         s,
         set.middle().get(),
-        set.numbers().radix,
+        set.within.numbers.radix,
         count,
         size,
         samples,
@@ -303,13 +317,13 @@ fn make_rows(
 
 // Makes the `count` rows of each entry of f, of `size` words in all.
 fn make_each_row(
-    f: &[i64],
-    s: &[i64],
+    f: &[i32],
+    s: &[i32],
     modulus: u32,
     radix: u32,
     count: usize,
     size: usize,
-    samples: &[i64],
+    samples: &[i32],
     rows: &mut [u32],
 )
     requires modulus { ⌜ 0 < modulus ⌝ }
@@ -319,7 +333,7 @@ fn make_each_row(
 {
     for j in 0..f.len() {
         let at = row_start(j, f.len(), size);
-        let message = residue(f[j], modulus);
+        let message = residue(f[j] as i64, modulus);
         make_entry_rows(
             message,
             radix,
@@ -337,9 +351,9 @@ fn make_entry_rows(
     message: u32,
     radix: u32,
     count: usize,
-    s: &[i64],
+    s: &[i32],
     modulus: u32,
-    samples: &[i64],
+    samples: &[i32],
     rows: &mut [u32],
 )
     requires modulus { ⌜ 0 < modulus ⌝ }
@@ -362,7 +376,7 @@ fn make_entry_rows(
 }
 
 // One row: its random words, and the last word.
-fn make_row(message: u32, s: &[i64], modulus: u32, samples: &[i64], row: &mut [u32])
+fn make_row(message: u32, s: &[i32], modulus: u32, samples: &[i32], row: &mut [u32])
     requires modulus { ⌜ 0 < modulus ⌝ }
     requires samples { ⌜ length (now samples) ≡ length (now s) + 1 ⌝ }
     requires row { ⌜ length (now row) ≡ length (now s) + 1 ⌝ }

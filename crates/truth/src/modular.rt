@@ -27,28 +27,9 @@ pub fn times(a: u32, b: u32, modulus: u32) -> u32
     (a as u64 * b as u64 % modulus as u64) as u32
 }
 
-// The word of a digit, whose magnitude is below the modulus.
-pub fn digit_word(digit: i64, modulus: u32) -> u32 {
-    let magnitude = (digit.unsigned_abs() & 0xffff_ffff) as u32;
-    if digit < 0 {
-        modulus.wrapping_sub(magnitude)
-    } else {
-        magnitude
-    }
-}
-
 // The word of any signed number.
 pub fn residue(number: i64, modulus: u32) -> u32
     requires { ⌜ 0 < modulus ⌝ }
 {
     number.rem_euclid(modulus as i64) as u32
-}
-
-// Each word becomes its remainder.
-pub fn reduce(words: &mut [u32], modulus: u32)
-    requires { ⌜ 0 < modulus ⌝ }
-{
-    for i in 0..words.len() {
-        words[i] %= modulus;
-    }
 }

@@ -16,14 +16,14 @@ use set::checked::Set;
 pub fn seal(
     set: &Set,
     bit: bool,
-    secret: &[i64],
-    randoms: &[i64],
-    noise: i64,
+    secret: &[i32],
+    randoms: &[i32],
+    noise: i32,
     out: &mut [u16],
 ) -> Result<(), Fault> {
     let n = set.dimension();
     let q = set.small();
-    let bound = set.numbers().bound as i64;
+    let bound = set.within.numbers.bound as i32;
     if secret.len() != n {
         return Err(wrong_length(0, Layer::Secrets));
     }
@@ -33,7 +33,7 @@ pub fn seal(
     if out.len() != n + 1 {
         return Err(wrong_length(3, Layer::Secrets));
     }
-    check_secret(0, secret, 0, 1, set.numbers().ones)?;
+    check_secret(0, secret, 0, 1, set.within.numbers.ones)?;
     check_randoms(randoms, q)?;
     check_sample(2, 0, noise, -bound, bound)?;
     let message = if bit { q / 4 } else { 0 };
@@ -42,26 +42,26 @@ pub fn seal(
     Ok(())
 }
 
-fn check_randoms(randoms: &[i64], q: u32) -> Result<(), Fault>
-    requires { ⌜ 0 < q ⌝ }
+fn check_randoms(randoms: &[i32], q: u32) -> Result<(), Fault>
+    requires { ⌜ 0 < q ⌝ ∗ ⌜ q ≤ 2048 ⌝ }
 {
     for i in 0..randoms.len() {
-        check_sample(1, i, randoms[i], 0, q as i64 - 1)?;
+        check_sample(1, i, randoms[i], 0, q as i32 - 1)?;
     }
     Ok(())
 }
 
-fn put_randoms(randoms: &[i64], q: u32, out: &mut [u16])
+fn put_randoms(randoms: &[i32], q: u32, out: &mut [u16])
     requires q { ⌜ 0 < q ⌝ ∗ ⌜ q ≤ 2048 ⌝ }
     requires out { ⌜ length (now randoms) ≤ length (now out) ⌝ }
 {
     for i in 0..randoms.len() {
-        out[i] = (residue(randoms[i], q) & 0xffff) as u16;
+        out[i] = (residue(randoms[i] as i64, q) & 0xffff) as u16;
     }
 }
 
 // The bit of a ciphertext: 0 for phases from -q/8 to q/8 - 1, and 1 from q/8 to 3q/8 - 1.
-pub fn open(set: &Set, ciphertext: &[u16], secret: &[i64]) -> Result<bool, Fault> {
+pub fn open(set: &Set, ciphertext: &[u16], secret: &[i32]) -> Result<bool, Fault> {
     let n = set.dimension();
     let q = set.small();
     if ciphertext.len() != n + 1 {
@@ -71,7 +71,7 @@ pub fn open(set: &Set, ciphertext: &[u16], secret: &[i64]) -> Result<bool, Fault
         return Err(wrong_length(1, Layer::Secrets));
     }
     check_ciphertext(ciphertext, q)?;
-    check_secret(1, secret, 0, 1, set.numbers().ones)?;
+    check_secret(1, secret, 0, 1, set.within.numbers.ones)?;
     let phase = phase_of(ciphertext, secret, q);
     let turned = plus(phase, q / 8, q);
     if turned < q / 4 {

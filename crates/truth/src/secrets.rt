@@ -10,9 +10,9 @@ use faults::fault::Fault;
 // Refuses a secret with an entry outside its bounds, and then one with too many entries that are not 0.
 pub fn check_secret(
     list: u32,
-    secret: &[i64],
-    low: i64,
-    high: i64,
+    secret: &[i32],
+    low: i32,
+    high: i32,
     weight: u32,
 ) -> Result<(), Fault> {
     for i in 0..secret.len() {
@@ -33,7 +33,7 @@ pub fn check_secret(
 }
 
 // How many entries are not 0.
-fn weight_of(secret: &[i64]) -> usize {
+fn weight_of(secret: &[i32]) -> usize {
     let mut weight = 0;
     for i in 0..secret.len() {
         if secret[i] != 0 {
@@ -47,9 +47,9 @@ fn weight_of(secret: &[i64]) -> usize {
 pub fn check_sample(
     list: u32,
     entry: usize,
-    sample: i64,
-    low: i64,
-    high: i64,
+    sample: i32,
+    low: i32,
+    high: i32,
 ) -> Result<(), Fault> {
     if sample < low || high < sample {
         return Err(Fault::Sample {
@@ -61,16 +61,16 @@ pub fn check_sample(
 }
 
 // The last word of a ciphertext: the message and the noise, less the sum of the random words times the secret.
-pub fn masked(message: u32, noise: i64, randoms: &[i64], secret: &[i64], modulus: u32) -> u32
+pub fn masked(message: u32, noise: i32, randoms: &[i32], secret: &[i32], modulus: u32) -> u32
     requires modulus { ⌜ 0 < modulus ⌝ }
     requires secret { ⌜ length (now secret) ≡ length (now randoms) ⌝ }
 {
-    let mut word = plus(message, residue(noise, modulus), modulus);
+    let mut word = plus(message, residue(noise as i64, modulus), modulus);
     for i in 0..randoms.len() {
-        let random = residue(randoms[i], modulus);
+        let random = residue(randoms[i] as i64, modulus);
         word = minus(
             word,
-            times(random, residue(secret[i], modulus), modulus),
+            times(random, residue(secret[i] as i64, modulus), modulus),
             modulus,
         );
     }
@@ -78,7 +78,7 @@ pub fn masked(message: u32, noise: i64, randoms: &[i64], secret: &[i64], modulus
 }
 
 // The phase of a ciphertext: its last word and the sum of the other words times the secret.
-pub fn phase_of(ciphertext: &[u16], secret: &[i64], modulus: u32) -> u32
+pub fn phase_of(ciphertext: &[u16], secret: &[i32], modulus: u32) -> u32
     requires modulus { ⌜ 0 < modulus ⌝ }
     requires ciphertext { ⌜ length (now secret) < length (now ciphertext) ⌝ }
 {
@@ -86,7 +86,7 @@ pub fn phase_of(ciphertext: &[u16], secret: &[i64], modulus: u32) -> u32
     for i in 0..secret.len() {
         phase = plus(
             phase,
-            times(ciphertext[i] as u32, residue(secret[i], modulus), modulus),
+            times(ciphertext[i] as u32, residue(secret[i] as i64, modulus), modulus),
             modulus,
         );
     }

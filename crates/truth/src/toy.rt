@@ -21,7 +21,7 @@ pub const TOY: Numbers = Numbers {
 };
 
 // The ring secret, of the full weight.
-pub const RING_SECRET: [i64; 64] = [
+pub const RING_SECRET: [i32; 64] = [
     0,
     0,
     1,
@@ -157,4 +157,4 @@ pub const INVERSE: [u32; 64] = [
 ];
 
 // The small secret, of the full weight: its pairs are 1 1, 0 0, 0 1 and 1 0.
-pub const SMALL_SECRET: [i64; 8] = [1, 1, 0, 0, 0, 1, 1, 0];
+pub const SMALL_SECRET: [i32; 8] = [1, 1, 0, 0, 0, 1, 1, 0];

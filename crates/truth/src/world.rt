@@ -1,10 +1,4 @@
-use crate::gate::Keys;
-use crate::gate::Letter;
-use crate::gate::Work;
-use crate::gate::gate;
 use crate::generator::Generator;
-use crate::kernel::Plain;
-use crate::kernel::PlainKernel;
 use crate::lengths::area;
 use crate::lengths::digit_words;
 use crate::maker::make_keys;
@@ -12,19 +6,23 @@ use crate::maker::sample_counts;
 use crate::product::turn_all;
 use crate::seal::open;
 use crate::seal::seal;
-use crate::sweep::Paired;
-use crate::sweep::PairedSweep;
-use crate::sweep::Sweep;
 use crate::toy::INVERSE;
 use crate::toy::RING_SECRET;
 use crate::toy::SMALL_SECRET;
 use crate::toy::TOY;
 use faults::fault::Fault;
-use set::check;
+use gate::bootstrap::gate;
+use gate::letter::Letter;
 use set::checked::Set;
 use std::alloc::AllocError;
 use std::alloc::Global;
 use std::io;
+use sweeps::check::check_for;
+use sweeps::paired::Paired;
+use sweeps::paired::PairedSweep;
+use sweeps::sweep::Sweep;
+use transform::transform::Transform;
+use transform::transform::TransformKernel;
 
 // What ends the program early.
 #[derive(Drop)]
@@ -60,27 +58,20 @@ pub struct World {
     start: Vec<u32>,
     selectors: Vec<u32>,
     rows: Vec<u32>,
-    randoms: Vec<i64>,
+    randoms: Vec<i32>,
     x: Vec<u16>,
     y: Vec<u16>,
     out: Vec<u16>,
-    combined: Vec<u16>,
-    accumulator: Vec<u32>,
-    extracted: Vec<u32>,
-    narrowed: Vec<u32>,
-    switched: Vec<u32>,
-    digits: Vec<u32>,
+    small: Vec<u16>,
+    work: Vec<u32>,
     part: Vec<u32>,
     scratch: Vec<u32>,
-    split: Vec<i64>,
-    places: Vec<i64>,
 }
 
 impl World {
     // The toy set, and keys from the generator's samples.
     pub fn new(heap: Global) -> Result<World, Failure> {
-        let within = check::within(TOY)?;
-        let set = check::checked(within, Paired::stated(&within))?;
+        let set = check_for::<Paired>(TOY)?;
         let mut world = World::empty(heap, set)?;
         world.make(heap)?;
         Ok(world)
@@ -93,8 +84,7 @@ impl World {
         let size = digit_words(set.digits(), n);
         let selectors = area(Paired::selectors(&set.within), size);
         let rows = area(n, digit_words(set.places(), ciphertext));
-        let split = set.digits();
-        let places = set.places();
+        let work = size + 4 * n + ciphertext + 2;
         let randoms = set.dimension();
         Ok(World {
             set,
@@ -106,23 +96,17 @@ impl World {
             x: vec![in heap; 0; ciphertext]?,
             y: vec![in heap; 0; ciphertext]?,
             out: vec![in heap; 0; ciphertext]?,
-            combined: vec![in heap; 0; ciphertext]?,
-            accumulator: vec![in heap; 0; n]?,
-            extracted: vec![in heap; 0; n + 1]?,
-            narrowed: vec![in heap; 0; n + 1]?,
-            switched: vec![in heap; 0; ciphertext]?,
-            digits: vec![in heap; 0; size]?,
+            small: vec![in heap; 0; ciphertext]?,
+            work: vec![in heap; 0; work]?,
             part: vec![in heap; 0; n]?,
             scratch: vec![in heap; 0; n]?,
-            split: vec![in heap; 0; split]?,
-            places: vec![in heap; 0; places]?,
         })
     }
 
     // Makes the keys, and turns their polynomials into forms.
     fn make(&mut self, heap: Global) -> Result<(), Failure> {
         let (noises, rows) = sample_counts::<Paired>(&self.set);
-        let mut samples = vec![in heap; 0i64; noises + rows]?;
+        let mut samples = vec![in heap; 0i32; noises + rows]?;
         self.generator.fill_samples(&TOY, noises, &mut samples);
         make_keys::<Paired>(
             &self.set,
@@ -137,14 +121,14 @@ impl World {
             &mut self.scratch,
         )?;
         turn_all(
-            &Plain,
+            &Transform,
             self.set.ring(),
             self.set.degree(),
             &mut self.start,
             &mut self.scratch,
         )?;
         turn_all(
-            &Plain,
+            &Transform,
             self.set.ring(),
             self.set.degree(),
             &mut self.selectors,
@@ -173,33 +157,20 @@ impl World {
             self.generator.within(TOY.bound),
             &mut self.y,
         )?;
-        let keys = Keys {
-            start: &self.start,
-            selectors: &self.selectors,
-            rows: &self.rows,
-        };
-        let work = Work {
-            combined: &mut self.combined,
-            accumulator: &mut self.accumulator,
-            extracted: &mut self.extracted,
-            narrowed: &mut self.narrowed,
-            switched: &mut self.switched,
-            digits: &mut self.digits,
-            part: &mut self.part,
-            scratch: &mut self.scratch,
-            split: &mut self.split,
-            places: &mut self.places,
-        };
         gate(
-            &Plain,
+            &Transform,
             &Paired,
             &self.set,
             letter,
             &self.x,
             &self.y,
             &mut self.out,
-            keys,
-            work,
+            &self.start,
+            &self.selectors,
+            &self.rows,
+            &mut self.small,
+            &mut self.work,
+            &mut self.scratch,
         )?;
         open(&self.set, &self.out, &SMALL_SECRET)
     }

@@ -1,0 +1,15 @@
+pub mod Bits
+pub mod Places
+pub mod Rows
+pub mod Answers
+pub mod Switched
+pub mod Turned
+pub mod Sets
+pub mod Lists
+pub mod Holding
+pub mod Rotated
+pub mod Keys
+pub mod Reach
+pub mod Opposite
+pub mod Phases
+pub mod Opened
