@@ -10,7 +10,7 @@ use faults::fault::Fault;
 use set::checked::Set;
 
 // The same, of lists that have their lengths.
-pub fn combine_right(set: &Set, letter: Letter, x: &[u16], y: &[u16], out: &mut [u16]) -> Combined
+pub(crate) fn combine_right(set: &Set, letter: Letter, x: &[u16], y: &[u16], out: &mut [u16]) -> Combined
     requires x { ⌜ length (now x) ≡ wordsOf (now set .within .numbers) ⌝ }
     requires y { ⌜ length (now y) ≡ wordsOf (now set .within .numbers) ⌝ }
     requires out { ⌜ length (now out) ≡ wordsOf (now set .within .numbers) ⌝ }

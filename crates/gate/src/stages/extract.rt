@@ -8,7 +8,7 @@ use crate::vectors::extract_words;
 use set::checked::Set;
 
 // The same, of lists that have their lengths.
-pub fn extract_right(set: &Set, acc: &mut [u32], out: &mut [u32], token: Swept) -> Extracted
+pub(crate) fn extract_right(set: &Set, acc: &mut [u32], out: &mut [u32], token: Swept) -> Extracted
     requires acc { ⌜ length (now acc) ≡ now set .within .numbers .degree ⌝ }
     requires out { ⌜ length (now out) ≡ sampleOf (now set .within .numbers) ⌝ }
     ensures token { λ r. ⌜ r .words ≡ sampleOf (now (set .entry) .within .numbers) ⌝ }

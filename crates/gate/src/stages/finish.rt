@@ -8,7 +8,7 @@ use crate::vectors::finish_words;
 use set::checked::Set;
 
 // The same, of lists that have their lengths.
-pub fn finish_right(set: &Set, words: &mut [u32], out: &mut [u16], token: Switched)
+pub(crate) fn finish_right(set: &Set, words: &mut [u32], out: &mut [u16], token: Switched)
     requires words { ⌜ length (now words) ≡ wordsOf (now set .within .numbers) ⌝ }
     requires out { ⌜ length (now out) ≡ wordsOf (now set .within .numbers) ⌝ }
     ensures words { λ _. ⌜ now (words .exit) ≡ replicate (length (now (words .entry))) 0 ⌝ }

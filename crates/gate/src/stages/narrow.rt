@@ -8,7 +8,7 @@ use crate::vectors::narrow_words;
 use set::checked::Set;
 
 // The same, of lists that have their lengths.
-pub fn narrow_right(set: &Set, words: &mut [u32], out: &mut [u32], token: Extracted) -> Narrowed
+pub(crate) fn narrow_right(set: &Set, words: &mut [u32], out: &mut [u32], token: Extracted) -> Narrowed
     requires words { ⌜ length (now words) ≡ sampleOf (now set .within .numbers) ⌝ }
     requires out { ⌜ length (now out) ≡ sampleOf (now set .within .numbers) ⌝ }
     ensures token { λ r. ⌜ r .words ≡ sampleOf (now (set .entry) .within .numbers) ⌝ }

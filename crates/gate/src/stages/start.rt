@@ -47,7 +47,7 @@ fn take_start<K: Kernel>(kernel: &K, set: &Set, acc: &mut [u32], key: &[u32], wo
 }
 
 // The same, of lists that have their lengths.
-pub fn start_right<K: Kernel>(kernel: &K, set: &Set, combined: &mut [u16], acc: &mut [u32], key: &[u32], work: &mut [u32], scratch: &mut [u32], token: Combined) -> Started
+pub(crate) fn start_right<K: Kernel>(kernel: &K, set: &Set, combined: &mut [u16], acc: &mut [u32], key: &[u32], work: &mut [u32], scratch: &mut [u32], token: Combined) -> Started
     requires combined { ⌜ length (now combined) ≡ wordsOf (now set .within .numbers) ⌝ }
     requires acc { ⌜ length (now acc) ≡ now set .within .numbers .degree ⌝ }
     requires key { ⌜ length (now key) ≡ startLength (now set .within .numbers) ⌝ }

@@ -27,7 +27,7 @@ fn turn<K: Kernel, S: Sweep>(kernel: &K, sweep: &S, set: &Set, exponents: &[u16]
 }
 
 // The same, of lists that have their lengths.
-pub fn sweep_right<K: Kernel, S: Sweep>(kernel: &K, sweep: &S, set: &Set, combined: &mut [u16], acc: &mut [u32], keys: &[u32], work: &mut [u32], scratch: &mut [u32], token: Started) -> Swept
+pub(crate) fn sweep_right<K: Kernel, S: Sweep>(kernel: &K, sweep: &S, set: &Set, combined: &mut [u16], acc: &mut [u32], keys: &[u32], work: &mut [u32], scratch: &mut [u32], token: Started) -> Swept
     requires combined { ⌜ length (now combined) ≡ wordsOf (now set .within .numbers) ⌝ }
     requires acc { ⌜ length (now acc) ≡ now set .within .numbers .degree ⌝ }
     requires keys { ⌜ length (now keys) ≡ selectorsLength (now set .within .numbers) (S·Sweep .count (now set .within)) ⌝ }

@@ -8,7 +8,7 @@ use crate::switching::switch_words;
 use set::checked::Set;
 
 // The same, of lists that have their lengths.
-pub fn switch_right(set: &Set, words: &mut [u32], out: &mut [u32], rows: &[u32], token: Narrowed) -> Switched
+pub(crate) fn switch_right(set: &Set, words: &mut [u32], out: &mut [u32], rows: &[u32], token: Narrowed) -> Switched
     requires words { ⌜ length (now words) ≡ sampleOf (now set .within .numbers) ⌝ }
     requires out { ⌜ length (now out) ≡ wordsOf (now set .within .numbers) ⌝ }
     requires rows { ⌜ length (now rows) ≡ rowsLength (now set .within .numbers) ⌝ }
