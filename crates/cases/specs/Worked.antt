@@ -10,6 +10,7 @@ use Rattle.faults.specs.declared.fault.Place.the-variants.{At, Entry}
 use Rattle.faults.specs.declared.fault.Fault.{Fault}
 use Rattle.faults.specs.Causes.{numberOf, placeOf}
 use Rattle.algebra.specs.Words.{product}
+use Rattle.algebra.specs.Gates.{extract}
 use Rattle.words.specs.Digits.{splitOf}
 use Rattle.words.specs.Rounding.{roundedTo}
 use Rattle.set.specs.declared.numbers.Numbers.{Numbers}
@@ -66,6 +67,8 @@ worked =
     ∷ case (pos (roundedTo (2 ^ 20) 128 4095) ∷ []) (pos 0 ∷ [])
     ∷ case (pos (roundedTo (2 ^ 20) 128 4096) ∷ []) (pos 1 ∷ [])
     ∷ case (pos (roundedTo (2 ^ 20) 128 1044480) ∷ []) (pos 0 ∷ [])
+    -- sample extraction from 5 + 6 X + 7 X^2 + 8 X^3 modulo X^4 + 1 and 17
+    ∷ case (map pos (extract 4 17 (5 ∷ 6 ∷ 7 ∷ 8 ∷ []))) (pos 5 ∷ pos 9 ∷ pos 10 ∷ pos 11 ∷ pos 2 ∷ [])
     -- V and W, and the least β at which the set closes: the third condition fails one below
     ∷ case (noises (large 117)) (pos 43018256 ∷ pos 20480 ∷ [])
     ∷ case (pairedSet (large 117)) []

@@ -3,6 +3,7 @@ use lib.Count.{leadingZeros}
 use Rattle.algebra.specs.Ints.{sumZ}
 use Rattle.algebra.specs.Polys.{mul}
 use Rattle.algebra.specs.Words.{words, product}
+use Rattle.algebra.specs.Gates.{extract}
 use Rattle.words.specs.Powers.{log2}
 use Rattle.words.specs.Digits.{digitsOf}
 use Rattle.set.specs.Limits.{limitsBroken}
@@ -11,5 +12,5 @@ use Rattle.cases.specs.Worked.{worked}
 use Rattle.cases.proofs.worked.worked_cases.Needs as need
 
 pub returns : need.returns
-unfolding worked product words mul sumZ digitsOf log2 leadingZeros limitsBroken rulesBroken
+unfolding worked product extract words mul sumZ digitsOf log2 leadingZeros limitsBroken rulesBroken
 returns c = refl
