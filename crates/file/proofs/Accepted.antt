@@ -9,11 +9,9 @@ use Rattle.set.specs.declared.numbers.Numbers.{Numbers}
 use Rattle.file.specs.declared.op.Op.{Op}
 use Rattle.file.specs.Registers.{wide}
 use Rattle.file.specs.Marks.{State}
-use Rattle.gate.specs.Lengths.{start_length, selectors_length, rows_length, gate_work}
-use Rattle.file.specs.declared.lists.Lists.{Lists}
-use Rattle.file.specs.Steps.{named, used, refuse_new, refuse_place, refuse_read, refuse_op, refuse_gate}
-use Rattle.file.specs.Wrong.{Among, WrongNew, WrongPlace, WrongRead, WrongOp, WrongGate}
-use Rattle.file.proofs.Refusals.{new_least, place_least, read_least, op_least, gate_least}
+use Rattle.file.specs.Steps.{named, used, refuse_new, refuse_place, refuse_read, refuse_op}
+use Rattle.file.specs.Wrong.{Among, WrongNew, WrongPlace, WrongRead, WrongOp}
+use Rattle.file.proofs.Refusals.{new_least, place_least, read_least, op_least}
 
 -- two numbers are equal, one is below another, a mark is there: else there is a fault
 equal : (a b : ℕ) → ((a ≡ b → ⊥) → ⊥) → a ≡ b
@@ -38,33 +36,6 @@ op_accepted m s op e =
       whole = equal (length s.words) (s.count * wide m) (λ n. clean (Length 0 File) (inl (refl, n)));
       low = λ x a. below x s.count (λ h. clean (Register x) (inr (inl (x, (refl, (a, h))))));
       full = λ x a. marked (get_or s.marks x false) (λ h. clean (Empty x) (inr (inr (x, (refl, (a, h))))));
-    }
-
--- the lists of a gate that is not refused
-pub record ReadyToGate (m : Numbers) (count : ℕ) (l : Lists) (s : State) (x y z : ℕ) : Type 0 where
-  pub start_long : l.start ≡ start_length m
-  pub selectors_long : l.selectors ≡ selectors_length m count
-  pub rows_long : l.rows ≡ rows_length m
-  pub small_long : l.small ≡ wide m
-  pub work_long : l.work ≡ gate_work m
-  pub scratch_long : l.scratch ≡ m.degree
-  pub ready : Ready m s (x ∷ y ∷ z ∷ []) (x ∷ y ∷ [])
-
-pub gate_accepted : (m : Numbers) (count : ℕ) (l : Lists) (s : State) (x y z : ℕ) → refuse_gate m count l s x y z ≡ None → ReadyToGate m count l s x y z
-gate_accepted m count l s x y z e =
-    let clean : (g : Fault) → WrongGate m count l s x y z g → ⊥ = subst (Least (WrongGate m count l s x y z)) e (gate_least m count l s x y z) in
-    record {
-      start_long = equal l.start (start_length m) (λ n. clean (Length 0 File) (inl (refl, n)));
-      selectors_long = equal l.selectors (selectors_length m count) (λ n. clean (Length 1 File) (inr (inl (refl, n))));
-      rows_long = equal l.rows (rows_length m) (λ n. clean (Length 2 File) (inr (inr (inl (refl, n)))));
-      small_long = equal l.small (wide m) (λ n. clean (Length 4 File) (inr (inr (inr (inr (inl (refl, n)))))));
-      work_long = equal l.work (gate_work m) (λ n. clean (Length 5 File) (inr (inr (inr (inr (inr (inl (refl, n))))))));
-      scratch_long = equal l.scratch m.degree (λ n. clean (Length 6 File) (inr (inr (inr (inr (inr (inr (inl (refl, n)))))))));
-      ready = record {
-        whole = equal (length s.words) (s.count * wide m) (λ n. clean (Length 3 File) (inr (inr (inr (inl (refl, n))))));
-        low = λ v a. below v s.count (λ h. clean (Register v) (inr (inr (inr (inr (inr (inr (inr (inl (v, (refl, (a, h))))))))))));
-        full = λ v a. marked (get_or s.marks v false) (λ h. clean (Empty v) (inr (inr (inr (inr (inr (inr (inr (inr (v, (refl, (a, h))))))))))));
-      };
     }
 
 pub record ReadyToRead (m : Numbers) (s : State) (x have : ℕ) : Type 0 where

@@ -1,5 +1,5 @@
 -- Each refusal is the least of the faults that are true of the call.
-use Rattle.std.proofs.Common.{◌≡◌, ℕ, ◌+◌, ◌*◌, ◌<◌, ◌≤◌, true, false, ◌&&◌, leb, ◌⊎◌, List, [], ◌∷◌, length, Some, None, Option, sym, refl, ap, ◌∙◌, subst, inl, inr, arith}
+use Rattle.std.proofs.Common.{◌≡◌, ℕ, ◌*◌, ◌≤◌, true, false, ◌&&◌, leb, ◌⊎◌, List, [], ◌∷◌, length, refl, inl, inr, arith}
 use Rattle.std.proofs.lemmas.Bool.{leb-true, leb-false, and_parts, and_cases}
 use Rattle.faults.specs.declared.fault.Fault.{Fault}
 use Rattle.faults.specs.declared.fault.Fault.TheVariants.{Length, Register, Empty, CipherWord}
@@ -10,10 +10,8 @@ use Rattle.set.specs.declared.numbers.Numbers.{Numbers}
 use Rattle.file.specs.declared.op.Op.{Op}
 use Rattle.file.specs.Registers.{wide, first_high}
 use Rattle.file.specs.Marks.{State}
-use Rattle.gate.specs.Lengths.{start_length, selectors_length, rows_length, gate_work}
-use Rattle.file.specs.declared.lists.Lists.{Lists}
-use Rattle.file.specs.Steps.{outsides, fault_at, bad_length, bad_memory, bad_registers, named, used, refuse_new, refuse_place, refuse_read, refuse_op, refuse_gate}
-use Rattle.file.specs.Wrong.{WrongLength, WrongRegister, WrongEmpty, WrongWord, WrongNew, WrongPlace, WrongRead, WrongOp, WrongGate}
+use Rattle.file.specs.Steps.{outsides, fault_at, bad_length, bad_memory, bad_registers, named, used, refuse_new, refuse_place, refuse_read, refuse_op}
+use Rattle.file.specs.Wrong.{WrongLength, WrongRegister, WrongEmpty, WrongWord, WrongNew, WrongPlace, WrongRead, WrongOp}
 use Rattle.file.proofs.Smallest.{register_least, empty_least, word_least}
 
 -- faults of lists come before those of registers and words, and these in their order
@@ -47,60 +45,6 @@ after_length i have want s names uses =
     least_or (WrongLength i have want) (λ g. WrongRegister s names g ⊎ WrongEmpty s uses g) _ _
     (least_length (Length i File) have want) (registers_least s names uses)
     (λ f g w v. elim v [ inl a ↦ length_register i have want s names f g w a | inr b ↦ length_empty i have want s uses f g w b ])
-
--- lists in their order, before the registers
-pub record After (i : ℕ) (W : Fault → Type 0) (a : Option Fault) : Type 0 where
-  pub least : Least W a
-  pub later : (j have want : ℕ) (f g : Fault) → j < i → WrongLength j have want f → W g → NoLater f g
-
-after_registers : (i have want : ℕ) (s : State) (names uses : List ℕ)
-    → After i (λ g. WrongLength i have want g ⊎ (WrongRegister s names g ⊎ WrongEmpty s uses g)) (or_else (bad_length i have want) (bad_registers s names uses))
-after_registers i have want s names uses =
-    record {
-      least = after_length i have want s names uses;
-      later = λ j h w f g l a v. elim v [
-        | inl b ↦ no_later_by f g (Length j File) (Length i File) a.0 b.0 (inr (refl, inl l))
-        | inr b ↦ elim b [ inl r ↦ length_register j h w s names f g a r | inr e ↦ length_empty j h w s uses f g a e ]
-      ];
-    }
-
-one_list : (i have want : ℕ) (W : Fault → Type 0) (a : Option Fault) → After (i + 1) W a
-    → After i (λ g. WrongLength i have want g ⊎ W g) (or_else (bad_length i have want) a)
-one_list i have want W a h =
-    record {
-      least = least_or (WrongLength i have want) W _ _ (least_length (Length i File) have want) h.least (λ f g w v. h.later i have want f g (omega arith) w v);
-      later = λ j k n f g l b v. elim v [
-        | inl c ↦ no_later_by f g (Length j File) (Length i File) b.0 c.0 (inr (refl, inl l))
-        | inr c ↦ h.later j k n f g (omega arith) b c
-      ];
-    }
-
-or_assoc : (a b c : Option Fault) → or_else (or_else a b) c ≡ or_else a (or_else b c)
-or_assoc None b c = refl
-or_assoc (Some f) b c = refl
-
-pub gate_least : (m : Numbers) (count : ℕ) (l : Lists) (s : State) (x y z : ℕ) → Least (WrongGate m count l s x y z) (refuse_gate m count l s x y z)
-gate_least m count l s x y z =
-    let names : List ℕ = x ∷ y ∷ z ∷ [] in
-    let uses : List ℕ = x ∷ y ∷ [] in
-    let a0 = bad_length 0 l.start (start_length m) in
-    let a1 = bad_length 1 l.selectors (selectors_length m count) in
-    let a2 = bad_length 2 l.rows (rows_length m) in
-    let a3 = bad_memory 3 m s in
-    let a4 = bad_length 4 l.small (wide m) in
-    let a5 = bad_length 5 l.work (gate_work m) in
-    let a6 = bad_length 6 l.scratch m.degree in
-    let r = bad_registers s names uses in
-    let turned : or_else a0 (or_else a1 (or_else a2 (or_else a3 (or_else a4 (or_else a5 (or_else a6 r)))))) ≡ refuse_gate m count l s x y z =
-    sym (or_assoc a0 _ r ∙ ap (or_else a0) (or_assoc a1 _ r ∙ ap (or_else a1) (or_assoc a2 _ r ∙ ap (or_else a2) (or_assoc a3 _ r ∙ ap (or_else a3) (or_assoc a4 _ r ∙ ap (or_else a4) (or_assoc a5 a6 r)))))) in
-    subst (Least (WrongGate m count l s x y z)) turned
-    (one_list 0 l.start (start_length m) _ _
-    (one_list 1 l.selectors (selectors_length m count) _ _
-    (one_list 2 l.rows (rows_length m) _ _
-    (one_list 3 (length s.words) (s.count * wide m) _ _
-    (one_list 4 l.small (wide m) _ _
-    (one_list 5 l.work (gate_work m) _ _
-    (after_registers 6 l.scratch m.degree s names uses))))))).least
 
 pub op_least : (m : Numbers) (s : State) (op : Op) → Least (WrongOp m s op) (refuse_op m s op)
 op_least m s op = after_length 0 (length s.words) (s.count * wide m) s (named op) (used op)

@@ -1,21 +1,13 @@
 -- One step of each call: why it is refused, what it leaves, and what is read.
-use Rattle.std.specs.Prelude.{ℕ, ◌*◌, Bool, true, false, cond, ◌&&◌, List, [], ◌∷◌, length, set, replicate, Some, None, Option, ◌==◌, nat_le, nat_lt, slice_index_or, slice_set}
+use Rattle.std.specs.Prelude.{ℕ, ◌*◌, Bool, true, false, cond, ◌&&◌, List, [], ◌∷◌, length, replicate, Some, None, Option, ◌==◌, nat_le, nat_lt, slice_index_or, slice_set}
 use Rattle.faults.specs.declared.fault.Fault.{Fault}
 use Rattle.faults.specs.declared.fault.Fault.TheVariants.{Length, Register, Empty, CipherWord}
 use Rattle.faults.specs.declared.fault.Layer.TheVariants.{File}
 use Rattle.faults.specs.Least.{or_else, unless}
-use Rattle.rings.specs.declared.ring.Ring.{Ring}
-use Rattle.set.specs.declared.checked.Set.{Set}
 use Rattle.set.specs.declared.numbers.Numbers.{Numbers}
-use Rattle.set.specs.declared.within.Within.{Within}
-use Rattle.gate.specs.declared.letter.Letter.{Letter}
-use Rattle.gate.specs.Gates.{gate_of}
-use Rattle.gate.specs.Keys.{start_of, selectors_of}
-use Rattle.gate.specs.Lengths.{start_length, selectors_length, rows_length, gate_work}
-use Rattle.file.specs.declared.lists.Lists.{Lists}
 use Rattle.file.specs.declared.op.Op.{Op}
-use Rattle.file.specs.declared.op.Op.TheVariants.{Gate, Invert, Copy, Clear}
-use Rattle.file.specs.Registers.{numbers_of, wide, row_at, put_row, remainders, opposite, first_high}
+use Rattle.file.specs.declared.op.Op.TheVariants.{Invert, Copy, Clear}
+use Rattle.file.specs.Registers.{wide, row_at, put_row, remainders, opposite, first_high}
 use Rattle.file.specs.Marks.{State}
 
 -- as it was if refused, and else anew
@@ -71,10 +63,6 @@ refuse_new m count have =
 abbrev pub fresh : Numbers → ℕ → State
 fresh m count = record { count = count; marks = replicate count false; words = replicate (count * wide m) 0 }
 
--- register z written and marked
-abbrev pub written : Numbers → State → ℕ → List ℕ → State
-written m s z new = record { count = s.count; marks = slice_set s.marks z true; words = put_row m z s.words new }
-
 -- placing words in z
 abbrev pub refuse_place : Numbers → State → ℕ → List ℕ → Option Fault
 refuse_place m s z new =
@@ -84,7 +72,8 @@ refuse_place m s z new =
     (fault_at (λ i. CipherWord i File) (first_high m.small 0 new))))
 
 abbrev pub done_place : Numbers → State → ℕ → List ℕ → State
-done_place m s z new = written m s z new
+done_place m s z new =
+    record { count = s.count; marks = slice_set s.marks z true; words = put_row m z s.words new }
 
 abbrev pub next_place : Numbers → State → ℕ → List ℕ → State
 next_place m s z new = either (refuse_place m s z new) s (done_place m s z new)
@@ -102,72 +91,31 @@ read_out m s x out = either (refuse_read m s x (length out)) out (words_read m s
 
 -- an operation: the registers that it names, and those of them that must be filled
 abbrev pub named : Op → List ℕ
-named (Gate l x y z) = x ∷ y ∷ z ∷ []
 named (Invert x z) = x ∷ z ∷ []
 named (Copy x z) = x ∷ z ∷ []
 named (Clear z) = z ∷ []
 
 abbrev pub used : Op → List ℕ
-used (Gate l x y z) = x ∷ y ∷ []
 used (Invert x z) = x ∷ []
 used (Copy x z) = x ∷ []
 used (Clear z) = z ∷ []
 
--- an operation that is handed register memory alone
 abbrev pub refuse_op : Numbers → State → Op → Option Fault
 refuse_op m s op = or_else (bad_memory 0 m s) (bad_registers s (named op) (used op))
 
--- the lists of a gate, for a sweep that takes so many selectors
-abbrev pub gate_lists : Numbers → ℕ → Lists → State → Option Fault
-gate_lists m count l s =
-    or_else (bad_length 0 l.start (start_length m))
-    (or_else (bad_length 1 l.selectors (selectors_length m count))
-    (or_else (bad_length 2 l.rows (rows_length m))
-    (or_else (bad_memory 3 m s)
-    (or_else (bad_length 4 l.small (wide m))
-    (or_else (bad_length 5 l.work (gate_work m))
-    (bad_length 6 l.scratch m.degree))))))
+-- the marks and the words that it leaves
+abbrev pub marksOp : List Bool → Op → List Bool
+marksOp marks (Invert x z) = slice_set marks z true
+marksOp marks (Copy x z) = slice_set marks z true
+marksOp marks (Clear z) = slice_set marks z false
 
-abbrev pub refuse_gate : Numbers → ℕ → Lists → State → ℕ → ℕ → ℕ → Option Fault
-refuse_gate m count l s x y z = or_else (gate_lists m count l s) (bad_registers s (x ∷ y ∷ z ∷ []) (x ∷ y ∷ []))
+abbrev pub wordsOp : Numbers → List ℕ → Op → List ℕ
+wordsOp m ws (Invert x z) = put_row m z ws (opposite m (row_at (wide m) x ws))
+wordsOp m ws (Copy x z) = put_row m z ws (remainders m (row_at (wide m) x ws))
+wordsOp m ws (Clear z) = ws
 
--- the words of a gate, from those of its letter and of two ciphertexts
-abbrev pub Gates : Type 0
-Gates = Letter → List ℕ → List ℕ → List ℕ
+abbrev pub done_op : Numbers → State → Op → State
+done_op m s op = record { count = s.count; marks = marksOp s.marks op; words = wordsOp m s.words op }
 
--- those of a sweep, over the polynomials that key memory reads as
-abbrev pub gates_by : (Numbers → List ℕ → List (List ℕ) → List ℕ → List ℕ) → (Ring → List ℕ → List ℕ) → (Within → ℕ) → Set → List ℕ → List ℕ → List ℕ → Gates
-gates_by defined reads count set start selectors rows l xs ys =
-    gate_of defined (numbers_of set) l (start_of reads set start) (selectors_of reads count set selectors) rows xs ys
-
--- what an accepted operation leaves
-abbrev pub done_gate : Gates → Numbers → State → Letter → ℕ → ℕ → ℕ → State
-done_gate gates m s l x y z = written m s z (gates l (row_at (wide m) x s.words) (row_at (wide m) y s.words))
-
-abbrev pub done_invert : Numbers → State → ℕ → ℕ → State
-done_invert m s x z = written m s z (opposite m (row_at (wide m) x s.words))
-
-abbrev pub done_copy : Numbers → State → ℕ → ℕ → State
-done_copy m s x z = written m s z (remainders m (row_at (wide m) x s.words))
-
-abbrev pub done_clear : State → ℕ → State
-done_clear s z = record { count = s.count; marks = slice_set s.marks z false; words = s.words }
-
-abbrev pub done_op : Gates → Numbers → State → Op → State
-done_op gates m s (Gate l x y z) = done_gate gates m s l x y z
-done_op gates m s (Invert x z) = done_invert m s x z
-done_op gates m s (Copy x z) = done_copy m s x z
-done_op gates m s (Clear z) = done_clear s z
-
--- what each call leaves
-abbrev pub next_gate : Gates → Numbers → ℕ → Lists → State → Letter → ℕ → ℕ → ℕ → State
-next_gate gates m count lists s l x y z = either (refuse_gate m count lists s x y z) s (done_gate gates m s l x y z)
-
-abbrev pub next_invert : Numbers → State → ℕ → ℕ → State
-next_invert m s x z = either (refuse_op m s (Invert x z)) s (done_invert m s x z)
-
-abbrev pub next_copy : Numbers → State → ℕ → ℕ → State
-next_copy m s x z = either (refuse_op m s (Copy x z)) s (done_copy m s x z)
-
-abbrev pub next_clear : Numbers → State → ℕ → State
-next_clear m s z = either (refuse_op m s (Clear z)) s (done_clear s z)
+abbrev pub nextOp : Numbers → State → Op → State
+nextOp m s op = either (refuse_op m s op) s (done_op m s op)

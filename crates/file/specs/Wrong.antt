@@ -8,9 +8,7 @@ use Rattle.file.specs.declared.op.Op.{Op}
 use Rattle.file.specs.Registers.{wide}
 use Rattle.file.specs.Marks.{State}
 use Rattle.faults.specs.Least.{Least}
-use Rattle.gate.specs.Lengths.{start_length, selectors_length, rows_length, gate_work}
-use Rattle.file.specs.declared.lists.Lists.{Lists}
-use Rattle.file.specs.Steps.{named, used, refuse_new, refuse_place, refuse_read, refuse_op, refuse_gate}
+use Rattle.file.specs.Steps.{named, used, refuse_new, refuse_place, refuse_read, refuse_op}
 
 abbrev pub Among : ℕ → List ℕ → Type 0
 Among x [] = ⊥
@@ -56,18 +54,6 @@ WrongOp m s op g =
     ⊎ (WrongRegister s (named op) g
     ⊎ WrongEmpty s (used op) g)
 
-abbrev pub WrongGate : Numbers → ℕ → Lists → State → ℕ → ℕ → ℕ → Fault → Type 0
-WrongGate m count l s x y z g =
-    WrongLength 0 l.start (start_length m) g
-    ⊎ (WrongLength 1 l.selectors (selectors_length m count) g
-    ⊎ (WrongLength 2 l.rows (rows_length m) g
-    ⊎ (WrongLength 3 (length s.words) (s.count * wide m) g
-    ⊎ (WrongLength 4 l.small (wide m) g
-    ⊎ (WrongLength 5 l.work (gate_work m) g
-    ⊎ (WrongLength 6 l.scratch m.degree g
-    ⊎ (WrongRegister s (x ∷ y ∷ z ∷ []) g
-    ⊎ WrongEmpty s (x ∷ y ∷ []) g)))))))
-
 -- the law of each call: what it answers is the least of these faults, by row and then by place, and none where none is true
 abbrev pub LeastNew : Numbers → ℕ → ℕ → Type 0
 LeastNew m count have = Least (WrongNew m count have) (refuse_new m count have)
@@ -80,6 +66,3 @@ LeastRead m s x have = Least (WrongRead m s x have) (refuse_read m s x have)
 
 abbrev pub LeastOp : Numbers → State → Op → Type 0
 LeastOp m s op = Least (WrongOp m s op) (refuse_op m s op)
-
-abbrev pub LeastGate : Numbers → ℕ → Lists → State → ℕ → ℕ → ℕ → Type 0
-LeastGate m count l s x y z = Least (WrongGate m count l s x y z) (refuse_gate m count l s x y z)

@@ -1,17 +1,14 @@
-ghost use Rattle.std.specs.Prelude.{◌≡◌, ℕ, ◌*◌, [], length, ◌==◌};
+ghost use Rattle.std.specs.Prelude.{◌≡◌, ◌*◌, length, ◌==◌};
 ghost use Rattle.file.specs.Marks.{filled, state_of};
 ghost use Rattle.file.specs.Registers.{numbers_of, wide};
-ghost use Rattle.file.specs.Steps.{lesser, outside, vacant, outsides, vacants, bad_registers, named, used, gate_lists, refuse_new, refuse_place, refuse_read, refuse_op, refuse_gate};
+ghost use Rattle.file.specs.Steps.{lesser, outside, vacant, outsides, vacants, named, used, refuse_new, refuse_place, refuse_read, refuse_op};
 
 use crate::file::File;
-use crate::lists::Lists;
 use crate::op::Op;
 use crate::rows::first_high;
-use crate::sizes::{gate_words, memory_of, row_words, selector_words, small, start_words, width};
+use crate::sizes::{memory_of, small, width};
 use faults::fault::{Fault, Layer};
-use gate::letter::Letter;
 use set::checked::Set;
-use sweeps::sweep::Sweep;
 
 // The smaller of two numbers, where there are any.
 fn smaller(a: Option<u32>, b: Option<u32>) -> Option<u32>
@@ -43,10 +40,6 @@ fn beyond_all(file: &File, op: Op) -> Option<u32>
     ensures { result ≡ outsides file.now.count (named op) }
 {
     match op {
-        Op::Gate { letter: _, x, y, z } => smaller(
-            beyond(file, x),
-            smaller(beyond(file, y), beyond(file, z)),
-        ),
         Op::Invert { x, z } => smaller(beyond(file, x), beyond(file, z)),
         Op::Copy { x, z } => smaller(beyond(file, x), beyond(file, z)),
         Op::Clear { z } => beyond(file, z),
@@ -58,12 +51,6 @@ fn empty_all(file: &File, op: Op) -> Option<u32>
     ensures { result ≡ vacants (filled file.now) (used op) }
 {
     match op {
-        Op::Gate {
-            letter: _,
-            x,
-            y,
-            z: _,
-        } => smaller(unfilled(file, x), unfilled(file, y)),
         Op::Invert { x, z: _ } => unfilled(file, x),
         Op::Copy { x, z: _ } => unfilled(file, x),
         Op::Clear { z } => unfilled(file, z),
@@ -147,19 +134,6 @@ pub fn read_fault(set: &Set, file: &File, x: u32, len: usize, regs: &[u16]) -> O
     None
 }
 
-// The registers of an operation: those that it names, and then those that must be filled.
-fn registers_fault(file: &File, op: Op) -> Option<Fault>
-    ensures { result ≡ bad_registers (state_of file.now []) (named op) (used op) }
-{
-    if let Some(register) = beyond_all(file, op) {
-        return Some(Fault::Register { register });
-    }
-    if let Some(register) = empty_all(file, op) {
-        return Some(Fault::Empty { register });
-    }
-    None
-}
-
 // Why an operation is refused, if it is.
 pub fn op_fault(set: &Set, file: &File, op: Op, regs: &[u16]) -> Option<Fault>
     ensures { result ≡ refuse_op (numbers_of set.now) (state_of file.now regs.now) op }
@@ -170,73 +144,11 @@ pub fn op_fault(set: &Set, file: &File, op: Op, regs: &[u16]) -> Option<Fault>
             part: Layer::File,
         });
     }
-    registers_fault(file, op)
-}
-
-// The lists of a gate.
-fn lists_fault<S: Sweep>(set: &Set, file: &File, lists: Lists, regs: &[u16]) -> Option<Fault>
-    ensures { result ≡ gate_lists (numbers_of set.now) (S.Sweep.count set.now.within) lists (state_of file.now regs.now) }
-{
-    if lists.start != start_words(set) {
-        return Some(Fault::Length {
-            list: 0,
-            part: Layer::File,
-        });
+    if let Some(register) = beyond_all(file, op) {
+        return Some(Fault::Register { register });
     }
-    if lists.selectors != selector_words::<S>(set) {
-        return Some(Fault::Length {
-            list: 1,
-            part: Layer::File,
-        });
-    }
-    if lists.rows != row_words(set) {
-        return Some(Fault::Length {
-            list: 2,
-            part: Layer::File,
-        });
-    }
-    if !memory_fits(set, file, regs) {
-        return Some(Fault::Length {
-            list: 3,
-            part: Layer::File,
-        });
-    }
-    if lists.small != width(set) {
-        return Some(Fault::Length {
-            list: 4,
-            part: Layer::File,
-        });
-    }
-    if lists.work != gate_words(set) {
-        return Some(Fault::Length {
-            list: 5,
-            part: Layer::File,
-        });
-    }
-    if lists.scratch != set.degree() {
-        return Some(Fault::Length {
-            list: 6,
-            part: Layer::File,
-        });
+    if let Some(register) = empty_all(file, op) {
+        return Some(Fault::Empty { register });
     }
     None
-}
-
-// Why a gate is refused, if it is.
-pub fn gate_fault<S: Sweep>(
-    set: &Set,
-    file: &File,
-    lists: Lists,
-    letter: Letter,
-    x: u32,
-    y: u32,
-    z: u32,
-    regs: &[u16],
-) -> Option<Fault>
-    ensures { result ≡ refuse_gate (numbers_of set.now) (S.Sweep.count set.now.within) lists (state_of file.now regs.now) x y z }
-{
-    if let Some(fault) = lists_fault::<S>(set, file, lists, regs) {
-        return Some(fault);
-    }
-    registers_fault(file, Op::Gate { letter, x, y, z })
 }

@@ -2,10 +2,8 @@
 pub mod calls;
 mod checks;
 pub mod file;
-mod gates;
-pub mod lists;
 mod named;
 pub mod op;
 mod refuse;
 mod rows;
-pub mod sizes;
+mod sizes;

@@ -1,17 +1,14 @@
 ghost use Rattle.std.specs.Prelude.{◌≡◌};
 ghost use Rattle.file.specs.Marks.{state_of};
 ghost use Rattle.file.specs.Registers.{numbers_of};
-ghost use Rattle.file.specs.Steps.{refuse_new, refuse_place, refuse_read, refuse_op, refuse_gate};
-ghost use Rattle.file.specs.Wrong.{LeastNew, LeastPlace, LeastRead, LeastOp, LeastGate};
+ghost use Rattle.file.specs.Steps.{refuse_new, refuse_place, refuse_read, refuse_op};
+ghost use Rattle.file.specs.Wrong.{LeastNew, LeastPlace, LeastRead, LeastOp};
 
-use crate::checks::{gate_fault, new_fault, op_fault, place_fault, read_fault};
+use crate::checks::{new_fault, op_fault, place_fault, read_fault};
 use crate::file::File;
-use crate::lists::Lists;
 use crate::op::Op;
 use faults::fault::Fault;
-use gate::letter::Letter;
 use set::checked::Set;
-use sweeps::sweep::Sweep;
 
 // Each refusal is the least of the faults that are true of what the call was handed.
 
@@ -41,20 +38,4 @@ pub fn refuse_op(set: &Set, file: &File, op: Op, regs: &[u16]) -> Option<Fault>
     ensures least { LeastOp (numbers_of set.now) (state_of file.now regs.now) op }
 {
     op_fault(set, file, op, regs)
-}
-
-pub fn refuse_gate<S: Sweep>(
-    set: &Set,
-    file: &File,
-    lists: Lists,
-    letter: Letter,
-    x: u32,
-    y: u32,
-    z: u32,
-    regs: &[u16],
-) -> Option<Fault>
-    ensures answer { result ≡ refuse_gate (numbers_of set.now) (S.Sweep.count set.now.within) lists (state_of file.now regs.now) x y z }
-    ensures least { LeastGate (numbers_of set.now) (S.Sweep.count set.now.within) lists (state_of file.now regs.now) x y z }
-{
-    gate_fault::<S>(set, file, lists, letter, x, y, z, regs)
 }

@@ -1,6 +1,6 @@
-pub mod Answers
-pub mod Orders
 pub mod Plain
-pub mod Calls
-pub mod Runs
-pub mod Promise
+pub mod Followed
+pub mod Shapes
+pub mod Held
+pub mod Lists
+pub mod Orders

@@ -1,10 +1,2 @@
-// Lists of calls on a register file: orders, runs, and what holds of all runs.
-mod act;
-pub mod answer;
-pub mod call;
-mod checks;
-mod lend;
-pub mod order;
-pub mod orders;
-pub mod run;
-mod serve;
+// What holds of the calls on a register file, step by step: the machine of plain bits, and what placed words decide.
+pub mod laws;

@@ -1,5 +1,0 @@
-pub mod Told
-pub mod Highs
-pub mod Rows
-pub mod Refusals
-pub mod Loaded

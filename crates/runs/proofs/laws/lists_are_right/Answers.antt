@@ -1,0 +1,5 @@
+use Rattle.runs.proofs.Lists.{every-list}
+use Rattle.runs.proofs.laws.lists_are_right.Goals as goal
+
+pub returns : goal.returns
+returns c = every-list

@@ -1,5 +1,0 @@
-use Rattle.runs.proofs.Lending.{verdict_told}
-use Rattle.runs.proofs.serve.place.Goals as goal
-
-pub returns : goal.returns
-returns g c = record { answer = verdict_told _ c.place.result _ c.verdict-of.ensures c.place.ensures.answer; state = c.place.ensures.state }
