@@ -5,7 +5,7 @@ use lib.IntN.{pow}
 use Rattle.algebra.proofs.Solve.{ring, forms}
 use Rattle.algebra.proofs.Sums.{sum_same, sum_scale, sum_split}
 use Rattle.algebra.proofs.Cong.{same, cong_refl, cong_sym, cong_trans, cong_add, cong_mul}
-use Rattle.algebra.proofs.Eval.{pow_add, eval_plus, eval_scale}
+use Rattle.algebra.proofs.Eval.{pow-add, eval_plus, eval_scale}
 use Rattle.algebra.specs.Ints.{Cong, sum_z}
 use Rattle.algebra.specs.Polys.{Poly, plus, scale, eval}
 use Rattle.algebra.specs.Transform.{Block}
@@ -27,13 +27,13 @@ butterfly Q h a c z r =
     turn a p q = ring (a ∷ p ∷ q ∷ []) (search forms depth 9) (search forms depth 9) refl
 
     past : (i : ℕ) → a (h + i) *ℤ pow z (h + i) ≡ pow z h *ℤ (a (h + i) *ℤ pow z i)
-    past i = ap (λ (x : ℤ). a (h + i) *ℤ x) (pow_add z h i) ∙ turn (a (h + i)) (pow z h) (pow z i)
+    past i = ap (λ (x : ℤ). a (h + i) *ℤ x) (pow-add z h i) ∙ turn (a (h + i)) (pow z h) (pow z i)
 
 -- both halves of a block, and a block of one coefficient
 pub block_low : (Q N h : ℕ) (a b : Poly) (c d : ℤ) → Cong Q (c *ℤ c) d → Block Q N a (h + h) b d
     → Block Q N a h (plus b (scale c (λ i. b (h + i)))) c
 block_low Q N h a b c d e block z r = cong_trans Q (cong_sym Q (butterfly Q h b c z r))
-    (block z (cong_trans Q (same Q _ _ (pow_add z h h)) (cong_trans Q (cong_mul Q r r) e)))
+    (block z (cong_trans Q (same Q _ _ (pow-add z h h)) (cong_trans Q (cong_mul Q r r) e)))
 
 pub block_high : (Q N h : ℕ) (a b : Poly) (c d : ℤ) → Cong Q (c *ℤ c) d → Block Q N a (h + h) b d
     → Block Q N a h (plus b (scale (neg_ℤ c) (λ i. b (h + i)))) (neg_ℤ c)

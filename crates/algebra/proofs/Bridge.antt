@@ -1,5 +1,5 @@
 -- Words below Q stand for integers modulo Q.
-use Rattle.std.proofs.Common.{◌≡◌, ℕ, zero, suc, ◌+◌, ◌*◌, ◌/◌, ◌%◌, ◌<◌, ℤ, pos, negsuc, ◌+ℤ◌, ◌-ℤ◌, ◌*ℤ◌, nat_abs, ap, ◌∙◌, mod-lt, mul_one, mul-add, arith}
+use Rattle.std.proofs.Common.{◌≡◌, ℕ, zero, suc, ◌+◌, ◌*◌, ◌/◌, ◌%◌, ◌<◌, ℤ, pos, negsuc, ◌+ℤ◌, ◌-ℤ◌, ◌*ℤ◌, nat_abs, ap, ◌∙◌, mod-lt, mul-one, mul-add, arith}
 use native.Mathlib.Nat.{div-add-mod}
 use borrow.Author.Differences.{ints}
 use lib.IntN.{*ℤ-zero}
@@ -33,7 +33,7 @@ word_cong Q (negsuc a) h =
     let d : Q * (a / Q) + a % Q ≡ a = div-add-mod a Q in
     let m : a % Q < Q = mod-lt a h in
     let p : Q * (1 + a / Q) ≡ Q * 1 + Q * (a / Q) = mul-add Q 1 (a / Q) in
-    let o : Q * 1 ≡ Q = mul_one Q in
+    let o : Q * 1 ≡ Q = mul-one Q in
     record { times = pos (1 + a / Q); is = omega (arith, ints) }
 
 pub word_below : (Q : ℕ) (z : ℤ) → 0 < Q → word_of Q z < Q

@@ -12,15 +12,15 @@ use Rattle.algebra.specs.Ints.{Cong, sum_z}
 use Rattle.algebra.specs.Polys.{Poly, Alike, plus, scale, shift, power, mul, eval}
 
 -- powers of integers
-pub pow_add : (z : ℤ) (a b : ℕ) → pow z (a + b) ≡ pow z a *ℤ pow z b
+pub pow-add : (z : ℤ) (a b : ℕ) → pow z (a + b) ≡ pow z a *ℤ pow z b
 unfolding pow lib.IntN.one
-pow_add z a zero = rw add-zero (sym (*ℤ-one (pow z a)))
-pow_add z a (suc b) = rw (add-suc, pow_add z a b) (*ℤ-assoc (pow z a) (pow z b) z)
+pow-add z a zero = rw add-zero (sym (*ℤ-one (pow z a)))
+pow-add z a (suc b) = rw (add-suc, pow-add z a b) (*ℤ-assoc (pow z a) (pow z b) z)
 
 pub pow_mul : (z : ℤ) (a b : ℕ) → pow z (a * b) ≡ pow (pow z a) b
 unfolding pow
 pow_mul z a zero = rw mul-zero
-pow_mul z a (suc b) = rw (mul-suc, pow_add z (a * b) a, pow_mul z a b)
+pow_mul z a (suc b) = rw (mul-suc, pow-add z (a * b) a, pow_mul z a b)
 
 pub pow_product : (a b : ℤ) (n : ℕ) → pow (a *ℤ b) n ≡ pow a n *ℤ pow b n
 unfolding pow lib.IntN.one

@@ -7,7 +7,7 @@ use Rattle.algebra.proofs.Ring.{*ℤ-assoc}
 use Rattle.algebra.proofs.Solve.{ring, forms}
 use Rattle.algebra.proofs.Sums.{sum_same, sum_zero, sum_scale, sum_swap, sum_split}
 use Rattle.algebra.proofs.Cong.{same, cong_refl, cong_sym, cong_trans, cong_neg, cong_add, cong_mul, cong_scale, cong_sum, zeroˡ, zeroʳ}
-use Rattle.algebra.proofs.Eval.{pow_add, pow_mul, pow_product, pow_one, pow_odd, pow_cong, eval_scale}
+use Rattle.algebra.proofs.Eval.{pow-add, pow_mul, pow_product, pow_one, pow_odd, pow_cong, eval_scale}
 use Rattle.algebra.specs.Ints.{Cong, sum_z}
 use Rattle.algebra.specs.Polys.{Poly, Alike, eval}
 use Rattle.algebra.specs.Transform.{interpolated}
@@ -20,7 +20,7 @@ geometric_double : (n : ℕ) (x : ℤ) → geometric (n + n) x ≡ (pos 1 +ℤ p
 unfolding geometric
 geometric_double n x =
     sum_split n n (λ j. pow x j)
-    ∙ ap (λ (y : ℤ). geometric n x +ℤ y) (sum_same n _ _ (λ i l. pow_add x n i) ∙ sum_scale n (pow x n) (λ j. pow x j))
+    ∙ ap (λ (y : ℤ). geometric n x +ℤ y) (sum_same n _ _ (λ i l. pow-add x n i) ∙ sum_scale n (pow x n) (λ j. pow x j))
     ∙ collect (geometric n x) (pow x n)
   where
     collect : (g y : ℤ) → g +ℤ y *ℤ g ≡ (pos 1 +ℤ y) *ℤ g
@@ -95,7 +95,7 @@ module _ (Q m : ℕ) where
     where
       each : (j : ℕ) → pow (pow z e) (2 * j + 1) ≡ pow z e *ℤ pow (pow z (2 * e)) j
       each j = sym (pow_mul z e (2 * j + 1)) ∙ ap (pow z) {y = e + 2 * e * j} (omega arith)
-          ∙ pow_add z e (2 * e * j) ∙ ap (λ (x : ℤ). pow z e *ℤ x) (pow_mul z (2 * e) j)
+          ∙ pow-add z e (2 * e * j) ∙ ap (λ (x : ℤ). pow z e *ℤ x) (pow_mul z (2 * e) j)
 
   odds_cong : {y y' : ℤ} → Cong Q y y' → Cong Q (odds (2 ^ m) y) (odds (2 ^ m) y')
   unfolding odds
@@ -108,7 +108,7 @@ module _ (Q m : ℕ) where
   -- z^(e + k) w^k is z^e, where z w is 1
   cancel : (z w : ℤ) (e k : ℕ) → Cong Q (z *ℤ w) (pos 1) → Cong Q (pow z (e + k) *ℤ pow w k) (pow z e)
   cancel z w e k inv =
-      cong_trans Q (same Q _ (pow z e *ℤ pow (z *ℤ w) k) (rw (pow_add, pow_product) (*ℤ-assoc (pow z e) (pow z k) (pow w k))))
+      cong_trans Q (same Q _ (pow z e *ℤ pow (z *ℤ w) k) (rw (pow-add, pow_product) (*ℤ-assoc (pow z e) (pow z k) (pow w k))))
       (cong_trans Q (cong_scale Q (pow z e) (cong_trans Q (pow_cong Q k inv) (same Q _ _ (pow_one k)))) (same Q _ _ (unit (pow z e))))
     where
       unit : (x : ℤ) → x *ℤ pos 1 ≡ x
@@ -241,7 +241,7 @@ halves Q (suc m) o = cong_trans Q
 pub root_inverse : (Q N : ℕ) (z : ℤ) → 0 < N → Cong Q (pow z N) (negsuc 0) → Cong Q (z *ℤ pow z (N + N - 1)) (pos 1)
 unfolding pow
 root_inverse Q N z some root = cong_trans Q
-    (same Q _ _ (*ℤ_comm z (pow z (N + N - 1)) ∙ ap (pow z) {x = suc (N + N - 1)} {y = N + N} (omega arith) ∙ pow_add z N N))
+    (same Q _ _ (*ℤ_comm z (pow z (N + N - 1)) ∙ ap (pow z) {x = suc (N + N - 1)} {y = N + N} (omega arith) ∙ pow-add z N N))
     (cong_mul Q root root)
 
 pub root_odd : (Q N k : ℕ) (z : ℤ) → Cong Q (pow z N) (negsuc 0) → Cong Q (pow (pow z (2 * k + 1)) N) (negsuc 0)

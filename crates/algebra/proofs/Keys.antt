@@ -4,7 +4,7 @@ use borrow.Author.Differences.{ints}
 use Rattle.algebra.proofs.Solve.{ring, forms}
 use Rattle.algebra.proofs.Sums.{sum_same, sum_add, sum_scale, sum_bound, abs_add}
 use Rattle.algebra.proofs.Cong.{same, cong_refl, cong_trans, cong_add, cong_sum}
-use Rattle.algebra.proofs.Poly.{mul_comm, mul_assoc, mul_left, one_mul, mul_linʳ, mul_plusʳ, mul_scaleˡ, mul_scaleʳ, mul_sumʳ, mul_monomial}
+use Rattle.algebra.proofs.Poly.{mul_comm, mul_assoc, mul_left, one-mul, mul_linʳ, mul_plusʳ, mul_scaleˡ, mul_scaleʳ, mul_sumʳ, mul_monomial}
 use Rattle.algebra.proofs.Norms.{mul_norm, mul_light, mul_alike, weight_one, weight_monomial, weight_scale}
 use Rattle.algebra.proofs.Near.{choose, noise_of, near_to, near_more}
 use Rattle.algebra.proofs.Digits.{word_digits, word_near, centred_cong}
@@ -117,8 +117,8 @@ module _ (Q N P B d E b G : ℕ) (f c : Poly) (D p : ℕ → Poly) (cut : Splits
   -- by a start key: c itself
   pub start_near : StartKey Q N P B d E f p → Nearby Q N (N * d * b * E + G) (mul N f (taken N d D p)) c
   start_near key k l = near_to Q
-      (taken_near one G key (λ x h k l. subst (λ (y : ℤ). nat_abs y ≤ G) (sym (one_mul N x k l)) (h k l)) k l)
-      (same Q _ _ (one_mul N c k l))
+      (taken_near one G key (λ x h k l. subst (λ (y : ℤ). nat_abs y ≤ G) (sym (one-mul N x k l)) (h k l)) k l)
+      (same Q _ _ (one-mul N c k l))
 
   -- by a selector of m: m times f c
   pub selector_near : (m : Poly) (w F : ℕ) → weight N m ≤ w → weight N f ≤ F → Selector Q N P B d E f m p
@@ -135,7 +135,7 @@ module _ (Q N P B d E b G : ℕ) (f c : Poly) (D p : ℕ → Poly) (cut : Splits
       → Nearby Q N (N * d * b * E + s * (G * F)) (mul N f (taken N d D p)) (scale (pos s) (mul N f c))
   bit_near s F hf key k l = near_to Q
       (selector_near (bit s) s F (omega (arith, weight_scale N (pos s) one, mul-le-mul_left s (weight_one N))) hf key k l)
-      (same Q _ _ (mul_scaleˡ N (pos s) one (mul N f c) k l ∙ ap (λ (x : ℤ). pos s *ℤ x) (one_mul N (mul N f c) k l)))
+      (same Q _ _ (mul_scaleˡ N (pos s) one (mul N f c) k l ∙ ap (λ (x : ℤ). pos s *ℤ x) (one-mul N (mul N f c) k l)))
 
   pub monomial_near : (i F : ℕ) → weight N f ≤ F → Selector Q N P B d E f (monomial N i) p
       → Nearby Q N (N * d * b * E + G * F) (mul N f (taken N d D p)) (power N i (mul N f c))

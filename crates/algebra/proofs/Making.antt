@@ -2,7 +2,7 @@
 use Rattle.std.proofs.Common.{◌≡◌, ℕ, ℤ, ◌+ℤ◌, ◌*ℤ◌, ap, ◌∙◌, arith}
 use borrow.Author.Differences.{ints}
 use Rattle.algebra.proofs.Cong.{same, cong_refl, cong_trans, cong_add}
-use Rattle.algebra.proofs.Poly.{mul_comm, mul_left, mul_one, mul_plusʳ, mul_scaleʳ}
+use Rattle.algebra.proofs.Poly.{mul_comm, mul_left, mul-one, mul_plusʳ, mul_scaleʳ}
 use Rattle.algebra.proofs.Norms.{mul_alike}
 use Rattle.algebra.specs.Polys.{Poly, Alike, Within, one, plus, scale, mul}
 use Rattle.algebra.specs.Near.{Nearby}
@@ -12,7 +12,7 @@ module _ (Q N E : ℕ) (f f' g : Poly) (inverse : Alike Q N (mul N f f') one) (s
   undone : (x : Poly) → Alike Q N (mul N f (mul N x f')) x
   undone x k l =
       cong_trans Q (same Q _ _ (mul_left N f x f' k l))
-      (cong_trans Q (mul_alike Q N x x (mul N f f') one (λ k l. cong_refl Q (x k)) inverse k l) (same Q _ _ (mul_one N x k l)))
+      (cong_trans Q (mul_alike Q N x x (mul N f f') one (λ k l. cong_refl Q (x k)) inverse k l) (same Q _ _ (mul-one N x k l)))
 
   -- (g + c t) f' is a part of a key of t
   pub made_start_lem : (c : ℤ) (t : Poly) → Nearby Q N E (mul N f (mul N (plus g (scale c t)) f')) (scale c t)

@@ -97,9 +97,9 @@ module _ (N : ℕ) where
       ∙ sum_same N _ _ (λ i b. ap (λ (x : ℤ). p i *ℤ x) (mul_powerˡ i q r k l))
       ∙ sym (mul_powers N p (mul N q r) k l)
 
-  pub mul_one : (p : Poly) → Same N (mul N p one) p
+  pub mul-one : (p : Poly) → Same N (mul N p one) p
   unfolding lib.IntN.one
-  mul_one p k l =
+  mul-one p k l =
       mul_powers N p one k l
       ∙ sum_one N k (λ i. p i *ℤ power N i one k) l
       (λ i b d. ap (λ (x : ℤ). p i *ℤ x) (monomial_there N i k b l d) ∙ *ℤ-zero (p i))
@@ -108,13 +108,13 @@ module _ (N : ℕ) where
 
   pub mul_comm : (p q : Poly) → Same N (mul N p q) (mul N q p)
   mul_comm p q k l = sym (
-      mul_sameʳ N q p (λ k. sum_z N (λ i. p i *ℤ power N i one k)) (λ k l. sym (mul_one p k l) ∙ mul_powers N p one k l) k l
+      mul_sameʳ N q p (λ k. sum_z N (λ i. p i *ℤ power N i one k)) (λ k l. sym (mul-one p k l) ∙ mul_powers N p one k l) k l
       ∙ mul_linʳ N N p (λ i. power N i one) q k l
-      ∙ sum_same N _ _ (λ i b. ap (λ (x : ℤ). p i *ℤ x) (mul_powerʳ i q one k l ∙ power_same N i (mul N q one) q (mul_one q) k l))
+      ∙ sum_same N _ _ (λ i b. ap (λ (x : ℤ). p i *ℤ x) (mul_powerʳ i q one k l ∙ power_same N i (mul N q one) q (mul-one q) k l))
       ∙ sym (mul_powers N p q k l))
 
-  pub one_mul : (p : Poly) → Same N (mul N one p) p
-  one_mul p k l = mul_comm one p k l ∙ mul_one p k l
+  pub one-mul : (p : Poly) → Same N (mul N one p) p
+  one-mul p k l = mul_comm one p k l ∙ mul-one p k l
 
   pub mul_left : (p q r : Poly) → Same N (mul N p (mul N q r)) (mul N q (mul N p r))
   mul_left p q r k l =
@@ -167,7 +167,7 @@ module _ (N : ℕ) where
 
   -- products with powers of X
   pub mul_monomial : (i : ℕ) (q : Poly) → Same N (mul N (monomial N i) q) (power N i q)
-  mul_monomial i q k l = mul_powerˡ i one q k l ∙ power_same N i (mul N one q) q (one_mul q) k l
+  mul_monomial i q k l = mul_powerˡ i one q k l ∙ power_same N i (mul N one q) q (one-mul q) k l
 
   pub monomials : (i j : ℕ) → Same N (mul N (monomial N i) (monomial N j)) (monomial N (i + j))
   monomials i j k l = mul_monomial i (monomial N j) k l ∙ sym (power_add N i j one k l)

@@ -1,5 +1,5 @@
 -- Steps of a sweep under the ring secret: the exponents add up, and so do the noises.
-use Rattle.std.proofs.Common.{◌≡◌, ℕ, zero, suc, ◌+◌, ◌-◌, ◌*◌, ◌/◌, ◌<◌, ◌≤◌, List, [], ◌∷◌, get_or, ℤ, pos, ◌+ℤ◌, ◌-ℤ◌, ◌*ℤ◌, neg_ℤ, sym, refl, ap, ◌∙◌, subst, ap₂, mul-le-mul_right, mul-zero, mul_one, arith}
+use Rattle.std.proofs.Common.{◌≡◌, ℕ, zero, suc, ◌+◌, ◌-◌, ◌*◌, ◌/◌, ◌<◌, ◌≤◌, List, [], ◌∷◌, get_or, ℤ, pos, ◌+ℤ◌, ◌-ℤ◌, ◌*ℤ◌, neg_ℤ, sym, refl, ap, ◌∙◌, subst, ap₂, mul-le-mul_right, mul-zero, mul-one, arith}
 use borrow.Author.Differences.{ints}
 use Rattle.algebra.proofs.Solve.{ring, forms}
 use Rattle.algebra.proofs.Cong.{same, cong_refl}
@@ -40,7 +40,7 @@ single_exact N j zero y k b = none (y k) (power N j y k) ∙ rw mul-zero (sym (p
   where
     none : (o x : ℤ) → o +ℤ (pos 0 *ℤ x -ℤ pos 0 *ℤ o) ≡ o
     none o x = ring (o ∷ x ∷ []) (search forms depth 9) (search forms depth 9) refl
-single_exact N j (suc zero) y k b = all (y k) (power N j y k) ∙ rw mul_one refl
+single_exact N j (suc zero) y k b = all (y k) (power N j y k) ∙ rw mul-one refl
   where
     all : (o x : ℤ) → o +ℤ (pos 1 *ℤ x -ℤ pos 1 *ℤ o) ≡ x
     all o x = ring (o ∷ x ∷ []) (search forms depth 9) (search forms depth 9) refl

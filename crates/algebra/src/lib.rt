@@ -1,4 +1,6 @@
 // The mathematics of the gate engine: the contract of each function names a record of laws, and its proof proves them.
+#![tactic(auto)]
+
 ghost use Rattle.algebra.specs.RingLaws.{RingLaws};
 ghost use Rattle.algebra.specs.WordLaws.{WordLaws};
 ghost use Rattle.algebra.specs.TransformLaws.{TransformLaws};

@@ -1,5 +1,5 @@
 -- Rows of words in one memory, and loops over a row.
-use Rattle.std.proofs.Common.{◌≡◌, ℕ, ◌+◌, ◌*◌, ◌%◌, ◌<◌, ◌≤◌, List, ◌++◌, length, get_or, take, drop, Some, None, sym, ap, ◌∙◌, subst, inl, inr, append_assoc, mul-le-mul_right, add-mul, one_mul, arith, rules}
+use Rattle.std.proofs.Common.{◌≡◌, ℕ, ◌+◌, ◌*◌, ◌%◌, ◌<◌, ◌≤◌, List, ◌++◌, length, get_or, take, drop, Some, None, sym, ap, ◌∙◌, subst, inl, inr, append_assoc, mul-le-mul_right, add-mul, one-mul, arith, rules}
 use lib.Seq.{paste}
 use borrow.Rule.Slice.PartMut.{put_mid}
 use Rattle.std.proofs.lemmas.List.FromFn.{fill_by_all}
@@ -14,7 +14,7 @@ pub row_fits : (x w v count n : ℕ) → w ≡ v → n ≡ count * v → x < cou
 row_fits x w v count n e l h =
     let m : (x + 1) * w ≤ count * w = mul-le-mul_right w (omega arith) in
     let k : n ≡ count * w = l ∙ ap (λ (i : ℕ). count * i) (sym e) in
-    omega (arith, add-mul x 1 w, one_mul w)
+    omega (arith, add-mul x 1 w, one-mul w)
 
 module _ (w : ℕ) (memory : List ℕ) where
   pub row_long : (x : ℕ) → x * w + w ≤ length memory → length (row_at w x memory) ≡ w
@@ -86,7 +86,7 @@ module _ (w z : ℕ) (memory new : List ℕ) (fits : z * w + w ≤ length memory
   pub put_other : (x : ℕ) → (x ≡ z → ⊥) → row_at w x (put_mid (z * w) w memory new) ≡ row_at w x memory
   put_other x apart = elim (cases_lt x z) [
     | inl l ↦
-        (let before : x * w + w ≤ z * w = (let m : (x + 1) * w ≤ z * w = mul-le-mul_right w (omega arith) in omega (arith, add-mul x 1 w, one_mul w)) in
+        (let before : x * w + w ≤ z * w = (let m : (x + 1) * w ≤ z * w = mul-le-mul_right w (omega arith) in omega (arith, add-mul x 1 w, one-mul w)) in
         let cut : (t : List ℕ) → row_at w x t ≡ drop (x * w) (take (x * w + w) t) =
         λ t. ap (λ (k : ℕ). take k (drop (x * w) t)) (omega arith) ∙ between_is t (x * w) (x * w + w) in
         cut (put_mid (z * w) w memory new)
@@ -94,6 +94,6 @@ module _ (w z : ℕ) (memory new : List ℕ) (fits : z * w + w ≤ length memory
         ∙ sym (cut memory))
     | inr g ↦
         (let after : z * w + w ≤ x * w =
-        (let m : (z + 1) * w ≤ x * w = mul-le-mul_right w (let n : z < x = elim (cases_eq x z) [ inl e ↦ absurd (apart e) | inr n ↦ omega arith ] in omega arith) in omega (arith, add-mul z 1 w, one_mul w)) in
+        (let m : (z + 1) * w ≤ x * w = mul-le-mul_right w (let n : z < x = elim (cases_eq x z) [ inl e ↦ absurd (apart e) | inr n ↦ omega arith ] in omega arith) in omega (arith, add-mul z 1 w, one-mul w)) in
         ap (take w) (drop-put_mid (z * w) w memory new (x * w) after (omega arith) long))
   ]

@@ -1,5 +1,5 @@
 -- The words of the opposite bit, one by one.
-use Rattle.std.proofs.Common.{◌≡◌, ℕ, suc, ◌+◌, ◌-◌, ◌*◌, ◌/◌, ◌%◌, ◌<◌, Bool, true, false, cond, eqb, List, length, get_or, pos, ◌-ℤ◌, ap, ◌∙◌, mod-lt, mul_one, mul-add, arith}
+use Rattle.std.proofs.Common.{◌≡◌, ℕ, suc, ◌+◌, ◌-◌, ◌*◌, ◌/◌, ◌%◌, ◌<◌, Bool, true, false, cond, eqb, List, length, get_or, pos, ◌-ℤ◌, ap, ◌∙◌, mod-lt, mul-one, mul-add, arith}
 use native.Mathlib.Nat.{div-add-mod}
 use borrow.Author.Differences.{ints}
 use Rattle.std.proofs.lemmas.List.FromFn.{fill_by_all}
@@ -18,7 +18,7 @@ less q c a h =
     let d : q * (a / q) + a % q ≡ a = div-add-mod a q in
     let l : a % q < q = mod-lt a h in
     let p : q * (1 + a / q) ≡ q * 1 + q * (a / q) = mul-add q 1 (a / q) in
-    let o : q * 1 ≡ q = mul_one q in
+    let o : q * 1 ≡ q = mul-one q in
     let near : Cong q (pos (c + (q - a % q))) (pos c -ℤ pos a) = record { times = pos (1 + a / q); is = omega (arith, ints) } in
     word_is q ((c + (q - a % q)) % q) (pos c -ℤ pos a) (mod-lt (c + (q - a % q)) h) (cong_trans q (mod_cong q (c + (q - a % q))) near)
 

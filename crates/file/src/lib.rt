@@ -1,4 +1,6 @@
 // The register file: marks, and the calls on registers of n + 1 words.
+#![tactic(auto)]
+
 pub mod calls;
 mod checks;
 pub mod file;

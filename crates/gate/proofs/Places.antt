@@ -1,5 +1,5 @@
 -- Words made place by place.
-use Rattle.std.proofs.Common.{◌≡◌, ℕ, zero, suc, ◌+◌, ◌-◌, ◌*◌, ◌/◌, ◌%◌, ◌<◌, ◌≤◌, Bool, true, false, cond, eqb, ◌≢◌, List, length, get_or, set, ℤ, pos, negsuc, ◌+ℤ◌, ◌-ℤ◌, ◌*ℤ◌, neg_ℤ, sym, refl, ap, ◌∙◌, subst, mod-lt, mod-eq_of_lt, mul_one, mul-add, arith, below_more, eq-eqb, ne_eqb}
+use Rattle.std.proofs.Common.{◌≡◌, ℕ, zero, suc, ◌+◌, ◌-◌, ◌*◌, ◌/◌, ◌%◌, ◌<◌, ◌≤◌, Bool, true, false, cond, eqb, ◌≢◌, List, length, get_or, set, ℤ, pos, negsuc, ◌+ℤ◌, ◌-ℤ◌, ◌*ℤ◌, neg_ℤ, sym, refl, ap, ◌∙◌, subst, mod-lt, mod-eq_of_lt, mul-one, mul-add, arith, below_more, eq-eqb, ne_eqb}
 use native.Mathlib.Nat.{div-add-mod, add-mul-mod_self_right, add-mul-div_left}
 use borrow.Author.Differences.{ints}
 use Rattle.std.proofs.lemmas.List.FromFn.{fill_by_all}
@@ -19,7 +19,7 @@ minus_word Q h s some =
     let d : Q * (s / Q) + s % Q ≡ s = div-add-mod s Q in
     let m : s % Q < Q = mod-lt s some in
     let p : Q * (1 + s / Q) ≡ Q * 1 + Q * (s / Q) = mul-add Q 1 (s / Q) in
-    let o : Q * 1 ≡ Q = mul_one Q in
+    let o : Q * 1 ≡ Q = mul-one Q in
     record { times = pos (1 + s / Q); is = omega (arith, ints) }))
 
 -- a loop's turn: one more word is told

@@ -1,7 +1,7 @@
 -- What a checked set tells of its numbers.
-use Rattle.std.proofs.Common.{◌≡◌, ℕ, zero, suc, ◌+◌, ◌-◌, ◌*◌, ◌/◌, ◌%◌, ◌^◌, ◌<◌, ◌≤◌, false, ◌⊎◌, sym, refl, ap, ◌∙◌, subst, inl, inr, mod-lt, one_mul, zero-mul, mul_one, mul-div_cancel, arith}
+use Rattle.std.proofs.Common.{◌≡◌, ℕ, zero, suc, ◌+◌, ◌-◌, ◌*◌, ◌/◌, ◌%◌, ◌^◌, ◌<◌, ◌≤◌, false, ◌⊎◌, sym, refl, ap, ◌∙◌, subst, inl, inr, mod-lt, one-mul, zero-mul, mul-one, mul-div_cancel, arith}
 use native.Mathlib.Nat.{mul-mod_left, mul-lt-mul_of_pos_left}
-use Rattle.std.proofs.lemmas.Nat.{pow_below, pow_pos, pow_add}
+use Rattle.std.proofs.lemmas.Nat.{pow_below, pow_pos, pow-add}
 use Rattle.std.proofs.lemmas.Bool.{cases_order}
 use Rattle.algebra.specs.Digits.{Covers}
 use Rattle.algebra.specs.Gates.{Closes, ring_noise, switch_noise}
@@ -24,7 +24,7 @@ powers_divide x y (i, e) (j, f) l =
     let some : 0 < x = subst (λ (n : ℕ). 0 < n) (sym e) (pow_pos i) in
     let le : i ≤ j = exponent_most i j (subst (λ (n : ℕ). n ≤ 2 ^ j) e (subst (λ (n : ℕ). x ≤ n) f l)) in
     let m : j ≡ (j - i) + i = omega arith in
-    let p : y ≡ 2 ^ (j - i) * x = f ∙ ap (λ (n : ℕ). 2 ^ n) m ∙ pow_add 2 (j - i) i ∙ ap (λ (n : ℕ). 2 ^ (j - i) * n) (sym e) in
+    let p : y ≡ 2 ^ (j - i) * x = f ∙ ap (λ (n : ℕ). 2 ^ n) m ∙ pow-add 2 (j - i) i ∙ ap (λ (n : ℕ). 2 ^ (j - i) * n) (sym e) in
     let d : y / x ≡ 2 ^ (j - i) = ap (λ (n : ℕ). n / x) p ∙ mul-div_cancel (2 ^ (j - i)) some in
     (some, p ∙ ap (λ (n : ℕ). n * x) (sym d))
 

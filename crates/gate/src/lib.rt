@@ -1,4 +1,6 @@
 // One gate: two ciphertexts are combined, the result is refreshed by blind rotation and switched back to the small secret.
+#![tactic(auto)]
+
 mod beginning;
 pub mod bootstrap;
 mod guard;

@@ -1,4 +1,6 @@
 // Kernels: how polynomials of a ring are kept as forms, and the plain kernel, whose form is the polynomial.
+#![tactic(auto)]
+
 pub mod kernel;
 pub mod laws;
 pub mod plain;

@@ -1,5 +1,5 @@
 -- Quotients that fit a word, and the number of bits of a modulus.
-use Rattle.std.proofs.Common.{◌≡◌, ℕ, zero, suc, ◌+◌, ◌-◌, ◌*◌, ◌/◌, ◌%◌, ◌^◌, ◌<◌, ◌≤◌, sym, ap, ◌∙◌, inl, inr, mul-le-mul_right, mod-eq_of_lt, div-lt_iff_lt-mul, mul-le-mul_left, one_mul, arith, pow_mono, pow_add, w32, Fits}
+use Rattle.std.proofs.Common.{◌≡◌, ℕ, zero, suc, ◌+◌, ◌-◌, ◌*◌, ◌/◌, ◌%◌, ◌^◌, ◌<◌, ◌≤◌, sym, ap, ◌∙◌, inl, inr, mul-le-mul_right, mod-eq_of_lt, div-lt_iff_lt-mul, mul-le-mul_left, one-mul, arith, pow_mono, pow-add, w32, Fits}
 use native.Mathlib.Nat.{pow-succ'}
 use Rattle.std.proofs.lemmas.Bool.{cases_lt}
 
@@ -53,7 +53,7 @@ longer x r f p l h =
 fourfold : (r : ℕ) → 0 < r → 2 ^ (r - 1) * 2 ^ (r + 1) ≡ 2 ^ (2 * r)
 fourfold r p =
     let e : r - 1 + (r + 1) ≡ 2 * r = omega arith in
-    sym (pow_add 2 (r - 1) (r + 1)) ∙ ap (λ i. 2 ^ i) e
+    sym (pow-add 2 (r - 1) (r + 1)) ∙ ap (λ i. 2 ^ i) e
 
 pub square_fits : (Q r : ℕ) → 0 < r → Q < 2 ^ r → Q * Q ≤ 2 ^ (r - 1) * 2 ^ (r + 1)
 square_fits Q r p h =
@@ -61,7 +61,7 @@ square_fits Q r p h =
     let a : Q * Q ≤ 2 ^ r * Q = mul-le-mul_right Q l in
     let b : 2 ^ r * Q ≤ 2 ^ r * 2 ^ r = mul-le-mul_left (2 ^ r) l in
     let e : r + r ≡ 2 * r = omega arith in
-    let c : 2 ^ r * 2 ^ r ≡ 2 ^ (2 * r) = sym (pow_add 2 r r) ∙ ap (λ i. 2 ^ i) e in
+    let c : 2 ^ r * 2 ^ r ≡ 2 ^ (2 * r) = sym (pow-add 2 r r) ∙ ap (λ i. 2 ^ i) e in
     omega (arith, fourfold r p)
 
 -- 4^r as the code makes it, and its quotient as a word
@@ -69,7 +69,7 @@ pub shifted : (r : ℕ) → 0 < r → r < 32 → 1 * 2 ^ (2 * r) % 1844674407370
 shifted r p f =
     let a : 2 * r ≤ 62 = omega arith in
     let b : 2 ^ (2 * r) ≤ 2 ^ 62 = pow_mono a in
-    let o : 1 * 2 ^ (2 * r) ≡ 2 ^ (2 * r) = one_mul (2 ^ (2 * r)) in
+    let o : 1 * 2 ^ (2 * r) ≡ 2 ^ (2 * r) = one-mul (2 ^ (2 * r)) in
     ap (λ i. i % 18446744073709551616) o ∙ (mod-eq_of_lt (omega arith) ∙ sym (fourfold r p))
 
 pub mu_low : (Q r : ℕ) → r < 32 → 2 ^ (r - 1) < Q → 2 ^ (r - 1) * 2 ^ (r + 1) / Q < 4294967296

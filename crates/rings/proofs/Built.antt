@@ -1,5 +1,5 @@
 -- What a ring is built of: the table of roots, the root's power N, the inverse of N.
-use Rattle.std.proofs.Common.{◌≡◌, ℕ, zero, suc, ◌+◌, ◌-◌, ◌*◌, ◌/◌, ◌%◌, ◌^◌, ◌<◌, ◌≤◌, List, length, get_or, sym, ap, ◌∙◌, mod-lt, mod-eq_of_lt, mul-le-mul_left, pow-suc, mul_one, mul-add, arith, pow_mono, pow_add}
+use Rattle.std.proofs.Common.{◌≡◌, ℕ, zero, suc, ◌+◌, ◌-◌, ◌*◌, ◌/◌, ◌%◌, ◌^◌, ◌<◌, ◌≤◌, List, length, get_or, sym, ap, ◌∙◌, mod-lt, mod-eq_of_lt, mul-le-mul_left, pow-suc, mul-one, mul-add, arith, pow_mono, pow-add}
 use native.Mathlib.Nat.{pow-succ', mod-mod, pow-zero, mul-mul-mul_comm}
 use native.Mathlib.Nat.{mul-add-mod_self_right}
 use Rattle.rings.specs.Tables.{mirror, exponent, Powers}
@@ -48,7 +48,7 @@ squared ψ N Q x e h =
     let m : ℕ = ψ ^ (N / 2) in
     let a : Same Q (m % Q * (m % Q)) (m * m) = same_both Q (m % Q) m (m % Q) m (mod-mod m Q) (mod-mod m Q) in
     let k : N / 2 + N / 2 ≡ N = omega arith in
-    ap (λ i. i * i % Q) h ∙ (a ∙ ap (λ i. i % Q) (sym (pow_add ψ (N / 2) (N / 2)) ∙ ap (λ i. ψ ^ i) k))
+    ap (λ i. i * i % Q) h ∙ (a ∙ ap (λ i. i % Q) (sym (pow-add ψ (N / 2) (N / 2)) ∙ ap (λ i. ψ ^ i) k))
 
 -- half of Q + 1 is the inverse of 2
 halves : (Q n : ℕ) → Q % 2 ≡ 1 → Same Q ((Q / 2 + 1) ^ n * 2 ^ n) 1
@@ -61,7 +61,7 @@ halves Q (suc n) o =
     ap (λ i. i * 2 ^ suc n) (pow-suc a n) ∙ ap (λ i. a ^ n * a * i) (pow-suc 2 n) in
     let e2 : a ^ n * a * (2 ^ n * 2) ≡ a ^ n * 2 ^ n * (a * 2) = mul-mul-mul_comm (a ^ n) a (2 ^ n) 2 in
     let e3 : x * (Q + 1) ≡ x * Q + x * 1 = mul-add x Q 1 in
-    let e4 : x * 1 ≡ x = mul_one x in
+    let e4 : x * 1 ≡ x = mul-one x in
     ap (λ i. i % Q) (e1 ∙ (e2 ∙ (ap (λ i. x * i) d ∙ (e3 ∙ ap (λ i. x * Q + i) e4))))
     ∙ (mul-add-mod_self_right x Q x ∙ halves Q n o)
 

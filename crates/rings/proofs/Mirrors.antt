@@ -1,5 +1,5 @@
 -- Mirrored numbers, and where the places of a table lie.
-use Rattle.std.proofs.Common.{◌≡◌, ℕ, zero, suc, ◌+◌, ◌-◌, ◌*◌, ◌/◌, ◌%◌, ◌^◌, ◌<◌, ◌≤◌, sym, ap, ◌∙◌, mul-le-mul_right, mod-eq_of_lt, div-lt_iff_lt-mul, add-mul, one_mul, mul_left_comm, arith, pow_pos, pow_mono, pow_add}
+use Rattle.std.proofs.Common.{◌≡◌, ℕ, zero, suc, ◌+◌, ◌-◌, ◌*◌, ◌/◌, ◌%◌, ◌^◌, ◌<◌, ◌≤◌, sym, ap, ◌∙◌, mul-le-mul_right, mod-eq_of_lt, div-lt_iff_lt-mul, add-mul, one-mul, mul_left_comm, arith, pow_pos, pow_mono, pow-add}
 use native.Mathlib.Nat.{pow-succ', mul-lt-mul_of_pos_left}
 use Rattle.rings.specs.Tables.{mirror}
 
@@ -27,14 +27,14 @@ mirror_flip (suc s) b c e =
     let d : b % 2 + c % 2 ≡ 1 = omega arith in
     let m : (b % 2 + c % 2) * 2 ^ s ≡ b % 2 * 2 ^ s + c % 2 * 2 ^ s = add-mul (b % 2) (c % 2) (2 ^ s) in
     let o : (b % 2 + c % 2) * 2 ^ s ≡ 1 * 2 ^ s = ap (λ k. k * 2 ^ s) d in
-    let u : 1 * 2 ^ s ≡ 2 ^ s = one_mul (2 ^ s) in
+    let u : 1 * 2 ^ s ≡ 2 ^ s = one-mul (2 ^ s) in
     omega arith
 
 -- 1 shifted by at most 10
 pub one_shift : (k : ℕ) → k ≤ 10 → 1 * 2 ^ k % 18446744073709551616 ≡ 2 ^ k
 one_shift k h =
     let b : 2 ^ k ≤ 2 ^ 10 = pow_mono h in
-    let o : 1 * 2 ^ k ≡ 2 ^ k = one_mul (2 ^ k) in
+    let o : 1 * 2 ^ k ≡ 2 ^ k = one-mul (2 ^ k) in
     ap (λ i. i % 18446744073709551616) o ∙ mod-eq_of_lt (omega arith)
 
 -- a bit shifted by at most 10
@@ -55,7 +55,7 @@ row_of n h i e l =
 pub spot_low : (n h s r : ℕ) → s < n → h ≡ 2 ^ (n - 1) → r < 2 ^ s → 2 ^ (n - 1 - s) * (2 * r + 1) < 2 * h
 spot_low n h s r p e l =
     let k : n - 1 - s + s ≡ n - 1 = omega arith in
-    let hv : 2 ^ (n - 1 - s) * 2 ^ s ≡ 2 ^ (n - 1) = sym (pow_add 2 (n - 1 - s) s) ∙ ap (λ i. 2 ^ i) k in
+    let hv : 2 ^ (n - 1 - s) * 2 ^ s ≡ 2 ^ (n - 1) = sym (pow-add 2 (n - 1 - s) s) ∙ ap (λ i. 2 ^ i) k in
     let a : 2 * r + 1 < 2 * 2 ^ s = omega arith in
     let m : 2 ^ (n - 1 - s) * (2 * r + 1) < 2 ^ (n - 1 - s) * (2 * 2 ^ s) =
     mul-lt-mul_of_pos_left a (pow_pos (n - 1 - s)) in

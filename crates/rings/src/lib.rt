@@ -1,4 +1,6 @@
 // Checked rings: words modulo an odd number with X^N = -1, and the tables of their transform.
+#![tactic(auto)]
+
 mod build;
 pub mod check;
 pub mod numbers;

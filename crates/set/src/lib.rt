@@ -1,4 +1,6 @@
 // The sixteen numbers of a set: within their limits, and checked for a stated noise.
+#![tactic(auto)]
+
 pub mod accessors;
 pub mod check;
 pub mod checked;

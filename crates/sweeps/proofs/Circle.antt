@@ -1,6 +1,6 @@
 -- Exponents of Y modulo q are exponents of X modulo 2N.
 use Rattle.std.proofs.Common.{◌≡◌, ℕ, ◌+◌, ◌-◌, ◌*◌, ◌/◌, ◌%◌, ◌^◌, ◌<◌, ◌≤◌, ◌⊎◌, sym, refl, ap, ◌∙◌, subst, inl, inr, mul_assoc, mul_comm, mul-le-mul_left, mul-suc, mul-add, arith}
-use Rattle.std.proofs.lemmas.Nat.{pow_pos, pow_add, pow_below, shl-shr, div-add-mod', mod_below, mod-mul-add}
+use Rattle.std.proofs.lemmas.Nat.{pow_pos, pow-add, pow_below, shl-shr, div-add-mod', mod_below, mod-mul-add}
 use Rattle.std.proofs.lemmas.Bool.{cases_order}
 use Rattle.words.specs.Powers.{Power}
 use Rattle.set.specs.Limits.{Limits}
@@ -19,12 +19,12 @@ power_divides i j h = elim (cases_order i j) [
   where
     by : (k : ℕ) → k + i ≡ j → 2 ^ j ≡ 2 ^ j / 2 ^ i * 2 ^ i
     by k e =
-        let p : 2 ^ j ≡ 2 ^ k * 2 ^ i = ap (λ (n : ℕ). 2 ^ n) (sym e) ∙ pow_add 2 k i in
+        let p : 2 ^ j ≡ 2 ^ k * 2 ^ i = ap (λ (n : ℕ). 2 ^ n) (sym e) ∙ pow-add 2 k i in
         p ∙ ap (λ (n : ℕ). n * 2 ^ i) (sym (shl-shr (2 ^ k) i) ∙ ap (λ (n : ℕ). n / 2 ^ i) (sym p))
 
 circle_of : (N q a b : ℕ) → N ≡ 2 ^ a → q ≡ 2 ^ b → q ≤ 2 * N → N + N ≡ (N + N) / q * q
 circle_of N q a b e f h =
-    let two : N + N ≡ 2 ^ (1 + a) = omega (arith, pow_add 2 1 a) in
+    let two : N + N ≡ 2 ^ (1 + a) = omega (arith, pow-add 2 1 a) in
     rw (two, f) (power_divides b (1 + a) (omega arith))
 
 -- q divides 2N

@@ -1,7 +1,7 @@
 -- Signed numbers kept as words: their quotients and digits, and the words that they stand for.
-use Rattle.std.proofs.Common.{◌≡◌, ℕ, suc, ◌+◌, ◌-◌, ◌*◌, ◌/◌, ◌%◌, ◌^◌, ◌<◌, ◌≤◌, true, false, ◌⊎◌, ℤ, pos, negsuc, ◌+ℤ◌, ◌-ℤ◌, ◌*ℤ◌, neg_ℤ, nat_abs, ◌≤ℤ◌, ◌<ℤ◌, sym, refl, ap, ◌∙◌, subst, inl, inr, mul-le-mul_right, mul_comm, add-mul, mul-le-mul_left, mul_one, arith}
+use Rattle.std.proofs.Common.{◌≡◌, ℕ, suc, ◌+◌, ◌-◌, ◌*◌, ◌/◌, ◌%◌, ◌^◌, ◌<◌, ◌≤◌, true, false, ◌⊎◌, ℤ, pos, negsuc, ◌+ℤ◌, ◌-ℤ◌, ◌*ℤ◌, neg_ℤ, nat_abs, ◌≤ℤ◌, ◌<ℤ◌, sym, refl, ap, ◌∙◌, subst, inl, inr, mul-le-mul_right, mul_comm, add-mul, mul-le-mul_left, mul-one, arith}
 use Rattle.std.proofs.lemmas.Int.{ints}
-use Rattle.std.proofs.lemmas.Nat.{pow_pos, pow_add, shl-shr, div-add-mod', mod_below}
+use Rattle.std.proofs.lemmas.Nat.{pow_pos, pow-add, shl-shr, div-add-mod', mod_below}
 use Rattle.std.proofs.lemmas.Bool.{cases_order, lt-ltb, le-ltb}
 use Rattle.algebra.specs.Ints.{Cong, floor_z}
 use Rattle.algebra.specs.Digits.{centred, rest_of, digit_of}
@@ -25,7 +25,7 @@ under_from x z e = omega (arith, ints)
 -- 2^31 in units of 2^w
 pub top_is : (w : ℕ) → w ≤ 16 → 2 ^ 31 / 2 ^ w * 2 ^ w ≡ 2 ^ 31
 top_is w h =
-    let p : 2 ^ 31 ≡ 2 ^ (31 - w) * 2 ^ w = ap (λ (n : ℕ). 2 ^ n) {x = 31} {y = 31 - w + w} (omega arith) ∙ pow_add 2 (31 - w) w in
+    let p : 2 ^ 31 ≡ 2 ^ (31 - w) * 2 ^ w = ap (λ (n : ℕ). 2 ^ n) {x = 31} {y = 31 - w + w} (omega arith) ∙ pow-add 2 (31 - w) w in
     let q : 2 ^ 31 / 2 ^ w ≡ 2 ^ (31 - w) = ap (λ (n : ℕ). n / 2 ^ w) p ∙ shl-shr (2 ^ (31 - w)) w in
     ap (λ (n : ℕ). n * 2 ^ w) q ∙ sym p
 
@@ -46,7 +46,7 @@ module _ (x B e h : ℕ) (some : 0 < B) (top : e * B ≡ 2 ^ 31) where
       (rw a (omega (arith, ints))) (rw a (omega (arith, ints)))
 
   top_low : e ≤ 2 ^ 31
-  top_low = let m = mul-le-mul_left e some in omega (arith, mul_one e)
+  top_low = let m = mul-le-mul_left e some in omega (arith, mul-one e)
 
   -- the word that the machine computes keeps the quotient
   pub quotient_word : (u : ℤ) → pos x ≡ u +ℤ pos (2 ^ 31) → pos ((x + h) / B + (2 ^ 31 - e)) ≡ floor_z (u +ℤ pos h) B +ℤ pos (2 ^ 31)

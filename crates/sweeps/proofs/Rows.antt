@@ -1,5 +1,5 @@
 -- Rows of N words in one list, and one of them written.
-use Rattle.std.proofs.Common.{◌≡◌, ℕ, ◌+◌, ◌-◌, ◌*◌, ◌<◌, ◌≤◌, List, length, get_or, take, drop, sym, refl, ap, ◌∙◌, mul-le-mul_right, add-mul, one_mul, arith}
+use Rattle.std.proofs.Common.{◌≡◌, ℕ, ◌+◌, ◌-◌, ◌*◌, ◌<◌, ◌≤◌, List, length, get_or, take, drop, sym, refl, ap, ◌∙◌, mul-le-mul_right, add-mul, one-mul, arith}
 use borrow.Rule.Slice.PartMut.{put_mid}
 use Rattle.std.proofs.lemmas.List.{drop-take}
 use Rattle.std.proofs.lemmas.Slice.{take-put_mid_below, between-put_mid}
@@ -9,7 +9,7 @@ use Rattle.sweeps.specs.Forms.{row_of}
 pub row_ends : (i n count : ℕ) → i < count → i * n + n ≤ count * n
 row_ends i n count h =
     let k : (i + 1) * n ≤ count * n = mul-le-mul_right n (omega arith) in
-    omega (arith, add-mul i 1 n, one_mul n)
+    omega (arith, add-mul i 1 n, one-mul n)
 
 -- the row that was written, and a row before it
 pub row_same : (n i : ℕ) (xs ys : List ℕ) → i * n + n ≤ length xs → length ys ≡ n → row_of n (put_mid (i * n) n xs ys) i ≡ ys

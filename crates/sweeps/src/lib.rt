@@ -1,4 +1,6 @@
 // Sweeps: blind rotation of an accumulator by exponents under selectors.
+#![tactic(auto)]
+
 pub mod check;
 mod digits;
 pub mod external;

@@ -1,6 +1,6 @@
 -- A stage keeps what the blocks of an array hold.
 use Rattle.std.specs.Prelude.{◌≡◌, ℕ, suc, ◌+◌, ◌-◌, ◌*◌, ◌/◌, ◌%◌, ◌^◌, ◌<◌, ◌≤◌, List, length, slice_index, slice_index_or, refl}
-use Rattle.std.proofs.Common.{sym, ◌∙◌, ap, subst, mul-add, add-mul, mul_assoc, mul_comm, mul_left_comm, mul-le-mul_right, mod-eq_of_lt, mod-lt, mul_one, one_mul, zero-mul, add-zero, arith, pow_add}
+use Rattle.std.proofs.Common.{sym, ◌∙◌, ap, subst, mul-add, add-mul, mul_assoc, mul_comm, mul_left_comm, mul-le-mul_right, mod-eq_of_lt, mod-lt, mul-one, one-mul, zero-mul, add-zero, arith, pow-add}
 use Rattle.std.proofs.Math.Nat.{mod-mod, add-mod-mod, add-mod_right, mul-add-mod_self_right}
 use Rattle.rings.specs.Tables.{mirror}
 use Rattle.rings.proofs.Mod.{Same, same_add, same_times, same_both}
@@ -51,7 +51,7 @@ step Q m b d h c z x y made root =
     let three : Same Q (sum h lo + z ^ h * sum h hi) (sum h lo + c * sum h hi) =
     same_add Q (sum h lo) (sum h lo) (z ^ h * sum h hi) (c * sum h hi) refl (same_times Q (z ^ h) c (sum h hi) root) in
     let move : (k : ℕ) → high k * z ^ (h + k) ≡ z ^ h * hi k =
-    λ k. ap (λ n. high k * n) (pow_add z h k) ∙ mul_left_comm (high k) (z ^ h) (z ^ k) in
+    λ k. ap (λ n. high k * n) (pow-add z h k) ∙ mul_left_comm (high k) (z ^ h) (z ^ k) in
     let four : sum h (λ k. high k * z ^ (h + k)) ≡ z ^ h * sum h hi =
     sum_is h (λ k. high k * z ^ (h + k)) (λ k. z ^ h * hi k) move ∙ sum_times h (z ^ h) hi in
     let five : strided x m b (h + h) z ≡ sum h lo + z ^ h * sum h hi =
@@ -62,7 +62,7 @@ step Q m b d h c z x y made root =
 minus_is : (Q e n : ℕ) → n + 1 ≡ Q → e ≤ Q → Same Q (Q - e) (e * n)
 minus_is Q e n t h =
     let a : e * (n + 1) ≡ e * n + e * 1 = mul-add e n 1 in
-    let b : e * 1 ≡ e = mul_one e in
+    let b : e * 1 ≡ e = mul-one e in
     let c : e * (n + 1) ≡ e * Q = ap (λ i. e * i) t in
     let whole : e * Q + (Q - e) ≡ e * n + Q = omega arith in
     sym (mul-add-mod_self_right e Q (Q - e)) ∙ (ap (λ i. i % Q) whole ∙ add-mod_right (e * n) Q)
@@ -70,7 +70,7 @@ minus_is Q e n t h =
 square_one : (Q n : ℕ) → n + 1 ≡ Q → Same Q (n * n) 1
 square_one Q n t =
     let a : n * (n + 1) ≡ n * n + n * 1 = mul-add n n 1 in
-    let b : n * 1 ≡ n = mul_one n in
+    let b : n * 1 ≡ n = mul-one n in
     let c : n * (n + 1) ≡ n * Q = ap (λ i. n * i) t in
     let whole : n * n + Q ≡ n * Q + 1 = omega arith in
     sym (add-mod_right (n * n) Q) ∙ (ap (λ i. i % Q) whole ∙ mul-add-mod_self_right n Q 1)
@@ -90,7 +90,7 @@ left_power g s b =
 right_power : (g s b h : ℕ) → g * 2 ^ s ≡ h → power g (suc s) (2 * b + 1) ≡ power g s b + 2 * h
 right_power g s b h e =
     let a : mirror (suc s) (2 * b + 1) ≡ mirror s b + 1 * 2 ^ s = mirror_is s b 1 (omega arith) in
-    let o : 1 * 2 ^ s ≡ 2 ^ s = one_mul (2 ^ s) in
+    let o : 1 * 2 ^ s ≡ 2 ^ s = one-mul (2 ^ s) in
     let i : 2 * mirror (suc s) (2 * b + 1) + 1 ≡ (2 * mirror s b + 1) + 2 * 2 ^ s = omega arith in
     let j : g * (2 * 2 ^ s) ≡ 2 * (g * 2 ^ s) = mul_left_comm g 2 (2 ^ s) in
     ap (λ n. g * n) i
@@ -111,7 +111,7 @@ in_range k b m g h hk hb e =
     let kk : k + 1 ≤ g = omega arith in
     let a : (k + 1) * m ≤ g * m = mul-le-mul_right m kk in
     let c : (k + 1) * m ≡ k * m + 1 * m = add-mul k 1 m in
-    let o : 1 * m ≡ m = one_mul m in
+    let o : 1 * m ≡ m = one-mul m in
     omega arith
 
 spot : (k b m d : ℕ) → 2 * (k * m + b) + d ≡ k * (2 * m) + (2 * b + d)
@@ -129,11 +129,11 @@ module _ (Q ψ s g h n : ℕ) (w x y : List ℕ) (t : Stage Q ψ s g h n w x y) 
   up_left b z r =
       let p : ℕ = power g s b in
       let e : p + p ≡ power (g + g) s b = sym (add-mul g g (2 * mirror s b + 1)) in
-      ap (λ n. n % Q) (pow_add z g g)
-      ∙ (same_both Q (z ^ g) (ψ ^ p) (z ^ g) (ψ ^ p) r r ∙ ap (λ n. n % Q) (sym (pow_add ψ p p) ∙ ap (λ n. ψ ^ n) e))
+      ap (λ n. n % Q) (pow-add z g g)
+      ∙ (same_both Q (z ^ g) (ψ ^ p) (z ^ g) (ψ ^ p) r r ∙ ap (λ n. n % Q) (sym (pow-add ψ p p) ∙ ap (λ n. ψ ^ n) e))
 
   turned : (p : ℕ) → Same Q (ψ ^ (p + 2 * h)) (ψ ^ p * n)
-  turned p = ap (λ i. i % Q) (pow_add ψ p (2 * h)) ∙ same_both Q (ψ ^ p) (ψ ^ p) (ψ ^ (2 * h)) n refl t.neg
+  turned p = ap (λ i. i % Q) (pow-add ψ p (2 * h)) ∙ same_both Q (ψ ^ p) (ψ ^ p) (ψ ^ (2 * h)) n refl t.neg
 
   up_right : (b z : ℕ) → Same Q (z ^ g) (ψ ^ (power g s b + 2 * h)) → Same Q (z ^ (g + g)) (ψ ^ power (g + g) s b)
   up_right b z r =
@@ -141,12 +141,12 @@ module _ (Q ψ s g h n : ℕ) (w x y : List ℕ) (t : Stage Q ψ s g h n w x y) 
       let a : ℕ = ψ ^ p in
       let m2 : Same Q (z ^ g) (a * n) = r ∙ turned p in
       let m3 : Same Q (z ^ (g + g)) (a * n * (a * n)) =
-      ap (λ i. i % Q) (pow_add z g g) ∙ same_both Q (z ^ g) (a * n) (z ^ g) (a * n) m2 m2 in
+      ap (λ i. i % Q) (pow-add z g g) ∙ same_both Q (z ^ g) (a * n) (z ^ g) (a * n) m2 m2 in
       let e : a * n * (a * n) ≡ a * a * (n * n) =
       mul_assoc a n (a * n) ∙ (ap (λ i. a * i) (mul_left_comm n a n) ∙ sym (mul_assoc a a (n * n))) in
       let m4 : Same Q (a * a * (n * n)) (a * a * 1) = same_both Q (a * a) (a * a) (n * n) 1 refl (square_one Q n t.top) in
       let up : a * a * 1 ≡ ψ ^ power (g + g) s b =
-      mul_one (a * a) ∙ (sym (pow_add ψ p p) ∙ ap (λ i. ψ ^ i) (sym (add-mul g g (2 * mirror s b + 1)))) in
+      mul-one (a * a) ∙ (sym (pow-add ψ p p) ∙ ap (λ i. ψ ^ i) (sym (add-mul g g (2 * mirror s b + 1)))) in
       m3 ∙ (ap (λ i. i % Q) e ∙ (m4 ∙ ap (λ i. i % Q) up))
 
   inside : (k b : ℕ) → k < g → b < 2 ^ s → k * 2 ^ s + b < length w

@@ -2,7 +2,7 @@
 use Rattle.std.specs.Prelude.{◌≡◌, ℕ, zero, suc, ◌+◌, ◌-◌, ◌*◌, ◌%◌, ◌^◌, ◌<◌, ◌≤◌, List, length, slice_index, slice_index_or}
 use Rattle.std.proofs.Common.{sym, ◌∙◌, subst}
 use Rattle.std.proofs.Math.Path.{ap}
-use native.Mathlib.Nat.{mod-eq_of_lt, pow-succ', pow-zero, pow-suc, mul_one, one_mul, zero-mul, zero-add}
+use native.Mathlib.Nat.{mod-eq_of_lt, pow-succ', pow-zero, pow-suc, mul-one, one-mul, zero-mul, zero-add}
 use native.Mathlib.Omega.{arith}
 use Rattle.std.proofs.lemmas.List.FromFn.{fill_by_all}
 use Rattle.rings.specs.declared.ring.Ring.{Ring}
@@ -21,7 +21,7 @@ pub pow_times : (z e i : ℕ) → (z ^ e) ^ i ≡ z ^ (i * e)
 pow_times z e zero = pow-zero (z ^ e) ∙ (sym (pow-zero z) ∙ ap (λ j. z ^ j) (sym (zero-mul e)))
 pow_times z e (suc i) =
     let s : i * e + e ≡ suc i * e = omega (arith, native.Mathlib.Nat.suc-mul i e) in
-    pow-suc (z ^ e) i ∙ (ap (λ j. j * z ^ e) (pow_times z e i) ∙ (sym (lib.Pow.pow_add z (i * e) e) ∙ ap (λ j. z ^ j) s))
+    pow-suc (z ^ e) i ∙ (ap (λ j. j * z ^ e) (pow_times z e i) ∙ (sym (lib.Pow.pow-add z (i * e) e) ∙ ap (λ j. z ^ j) s))
 
 module _ (r : Ring) where
   neg : Same r.modulus (r.root ^ (2 * r.half)) (r.modulus - 1)
@@ -101,13 +101,13 @@ module _ (r : Ring) where
       let h1 : Kept f r.log 1 y = subst (λ (i : ℕ). Kept f r.log (2 ^ i) y) n0 h in
       let z : ℕ = r.root ^ order r.log k in
       let z1 : z ^ 1 ≡ r.root ^ power 1 r.log k =
-      pow-suc z 0 ∙ (ap (λ i. i * z) (pow-zero z) ∙ (one_mul z ∙ ap (λ i. r.root ^ i) (sym (one_mul (order r.log k))))) in
+      pow-suc z 0 ∙ (ap (λ i. i * z) (pow-zero z) ∙ (one-mul z ∙ ap (λ i. r.root ^ i) (sym (one-mul (order r.log k))))) in
       let kb : k < 2 ^ r.log = omega (arith, r.size.0) in
       let same = h1 k kb z (ap (λ i. i % r.modulus) z1) in
       let v : ℕ = slice_index_or y (0 * 2 ^ r.log + k) 0 in
       let place : 0 * 2 ^ r.log + k ≡ k = ap (λ i. i + k) (zero-mul (2 ^ r.log)) ∙ zero-add k in
       let at : strided y (2 ^ r.log) k 1 z ≡ slice_index_or y k 0 =
-      ap (λ i. 0 + v * i) (pow-zero z) ∙ (ap (λ i. 0 + i) (mul_one v) ∙ (zero-add v ∙ ap (λ i. slice_index y i) place)) in
+      ap (λ i. 0 + v * i) (pow-zero z) ∙ (ap (λ i. 0 + i) (mul-one v) ∙ (zero-add v ∙ ap (λ i. slice_index y i) place)) in
       sym (mod-eq_of_lt (below k (omega arith))) ∙ (ap (λ i. i % r.modulus) (sym at) ∙ same)
 
   -- all stages of a polynomial give its form

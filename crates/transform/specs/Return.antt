@@ -1,6 +1,6 @@
 -- All stages and their way back: N times what there was.
 use Rattle.std.specs.Prelude.{◌≡◌, ℕ, zero, suc, ◌+◌, ◌-◌, ◌*◌, ◌/◌, ◌%◌, ◌^◌, ◌<◌, ◌≤◌, List, length, ℤ, pos, negsuc, ◌*ℤ◌, slice_index, refl}
-use Rattle.std.proofs.Common.{sym, ◌∙◌, div-lt_iff_lt-mul, mod-lt, mod-eq_of_lt, mul-add, mul_comm, add-mul, one_mul, pow_add, pow_pos}
+use Rattle.std.proofs.Common.{sym, ◌∙◌, div-lt_iff_lt-mul, mod-lt, mod-eq_of_lt, mul-add, mul_comm, add-mul, one-mul, pow-add, pow_pos}
 use Rattle.std.proofs.Math.Path.{ap, subst}
 use Rattle.std.proofs.Math.Nat.{div-add-mod, mul-add-mod_self_right, pow-succ'}
 use native.Mathlib.Omega.{arith}
@@ -30,7 +30,7 @@ pair_up n s b c l e =
     let k : n - (s + 1) + suc s ≡ n = omega arith in
     let t : (2 * mirror s b + 1) + (2 * mirror s c + 1) ≡ 2 ^ suc s = omega arith in
     sym (mul-add g (2 * mirror s b + 1) (2 * mirror s c + 1))
-    ∙ (ap (λ i. g * i) t ∙ (sym (pow_add 2 (n - (s + 1)) (suc s)) ∙ ap (λ i. 2 ^ i) k))
+    ∙ (ap (λ i. g * i) t ∙ (sym (pow-add 2 (n - (s + 1)) (suc s)) ∙ ap (λ i. 2 ^ i) k))
 
 -- the remainders of the two places add up to m - 1
 ends : (g m h j : ℕ) → 0 < m → g * m ≡ h → j < h → j % m + (h - 1 - j) % m + 1 ≡ m
@@ -43,7 +43,7 @@ ends g m h j m0 e l =
     let gg : j / m + 1 + (g - 1 - j / m) ≡ g = omega arith in
     let p1 : (j / m + 1 + (g - 1 - j / m)) * m ≡ (j / m + 1) * m + (g - 1 - j / m) * m = add-mul (j / m + 1) (g - 1 - j / m) m in
     let p2 : (j / m + 1) * m ≡ j / m * m + 1 * m = add-mul (j / m) 1 m in
-    let p3 : 1 * m ≡ m = one_mul m in
+    let p3 : 1 * m ≡ m = one-mul m in
     let p4 : (j / m + 1 + (g - 1 - j / m)) * m ≡ g * m = ap (λ i. i * m) gg in
     let all : h - 1 - j ≡ (g - 1 - j / m) * m + (m - 1 - j % m) = omega arith in
     let lt : m - 1 - j % m < m = omega arith in
@@ -93,7 +93,7 @@ module _ (r : Ring) where
       cong_trans Q (same Q _ _ (ap pos (root_at r s j l jb))) (mod_cong Q (r.root ^ e1)) in
       let c2 : Cong Q (pos (slice_index w (length w - 1 - j))) (pos (r.root ^ e2)) =
       cong_trans Q (same Q _ _ (ap pos (root_at r s (length w - 1 - j) l ib))) (mod_cong Q (r.root ^ e2)) in
-      let pw : r.root ^ e1 * r.root ^ e2 ≡ r.root ^ r.degree = sym (pow_add r.root e1 e2) ∙ ap (λ i. r.root ^ i) total in
+      let pw : r.root ^ e1 * r.root ^ e2 ≡ r.root ^ r.degree = sym (pow-add r.root e1 e2) ∙ ap (λ i. r.root ^ i) total in
       cong_trans Q (cong_mul Q c1 c2) (cong_trans Q (same Q _ _ (ap pos pw)) root_turns)
 
   -- ---- the way back keeps length and bound

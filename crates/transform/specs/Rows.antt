@@ -1,6 +1,6 @@
 -- The rows of a ring's tables.
 use Rattle.std.specs.Prelude.{◌≡◌, ℕ, ◌+◌, ◌-◌, ◌*◌, ◌/◌, ◌%◌, ◌^◌, ◌<◌, ◌≤◌, List, length, drop, slice_index, slice_index_or}
-use Rattle.std.proofs.Common.{sym, ◌∙◌, ap, mod-lt, mul-le-mul_right, add-mul, one_mul, mod-eq_of_lt, add-zero, arith, pow_add, length-take, length-drop, get_or-take, get_or-drop}
+use Rattle.std.proofs.Common.{sym, ◌∙◌, ap, mod-lt, mul-le-mul_right, add-mul, one-mul, mod-eq_of_lt, add-zero, arith, pow-add, length-take, length-drop, get_or-take, get_or-drop}
 use Rattle.std.proofs.Math.Nat.{mod-mod, mul-add-div_right, mul-add-mod_self_right, div-eq_of_lt}
 use Rattle.rings.specs.declared.ring.Ring.{Ring}
 use Rattle.rings.specs.Tables.{mirror, exponent}
@@ -17,7 +17,7 @@ in_table n h s j l b =
     let k : s + 1 ≤ n = omega arith in
     let a : (s + 1) * h ≤ n * h = mul-le-mul_right h k in
     let c : (s + 1) * h ≡ s * h + 1 * h = add-mul s 1 h in
-    let o : 1 * h ≡ h = one_mul h in
+    let o : 1 * h ≡ h = one-mul h in
     omega arith
 
 exponent_at : (n h s j : ℕ) → j < h → exponent n h (s * h + j) ≡ 2 ^ (n - 1 - s) * (2 * mirror s (j % 2 ^ s) + 1)
@@ -39,7 +39,7 @@ module _ (r : Ring) where
   pub reach_is : (s : ℕ) → s < r.log → 2 ^ (r.log - (s + 1)) * 2 ^ s ≡ r.half
   reach_is s l =
       let e : r.log - (s + 1) + s ≡ r.log - 1 = omega arith in
-      sym (pow_add 2 (r.log - (s + 1)) s) ∙ (ap (λ i. 2 ^ i) e ∙ sym r.size.1)
+      sym (pow-add 2 (r.log - (s + 1)) s) ∙ (ap (λ i. 2 ^ i) e ∙ sym r.size.1)
 
   pub row_fits : (s : ℕ) → s < r.log → s * r.half + r.half ≤ 5120
   row_fits s l =

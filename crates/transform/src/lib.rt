@@ -1,4 +1,6 @@
 // The transform kernel: a form is the values of a polynomial at the odd powers of the ring's root.
+#![tactic(auto)]
+
 mod field;
 pub mod laws;
 mod pointwise;

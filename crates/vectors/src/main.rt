@@ -1,4 +1,6 @@
 // The comparison program: answers questions, a line each, by the library.
+#![tactic(auto)]
+
 mod answer;
 mod digits;
 mod numbers;

@@ -1,5 +1,5 @@
 -- The law of the split: under cover every digit is small, and the digits stand for the word but for the dropped part.
-use Rattle.std.proofs.Common.{◌≡◌, ℕ, zero, suc, ◌+◌, ◌-◌, ◌*◌, ◌/◌, ◌%◌, ◌^◌, ◌<◌, ◌≤◌, ◌⊎◌, List, [], ◌∷◌, ℤ, pos, negsuc, ◌+ℤ◌, ◌-ℤ◌, ◌*ℤ◌, neg_ℤ, nat_abs, ◌≤ℤ◌, ◌<ℤ◌, sym, refl, ap, ◌∙◌, subst, inl, inr, mul_assoc, mul-le-mul_left, mul_one, arith}
+use Rattle.std.proofs.Common.{◌≡◌, ℕ, zero, suc, ◌+◌, ◌-◌, ◌*◌, ◌/◌, ◌%◌, ◌^◌, ◌<◌, ◌≤◌, ◌⊎◌, List, [], ◌∷◌, ℤ, pos, negsuc, ◌+ℤ◌, ◌-ℤ◌, ◌*ℤ◌, neg_ℤ, nat_abs, ◌≤ℤ◌, ◌<ℤ◌, sym, refl, ap, ◌∙◌, subst, inl, inr, mul_assoc, mul-le-mul_left, mul-one, arith}
 use native.Mathlib.Nat.{pow-succ', pow-zero}
 use Rattle.std.specs.List.{AllByRecursion as All}
 use Rattle.std.proofs.lemmas.Int.{ints}
@@ -40,7 +40,7 @@ digit_within B u h e =
 -- every digit, where the number is small enough
 pub digits_within : (B k : ℕ) (u : ℤ) → 0 < B / 2 → B ≡ 2 * (B / 2) → nat_abs u ≤ B / 2 * B ^ k → All (Within (B / 2)) (digits_of B (suc k) u)
 unfolding digits_of
-digits_within B zero u h e s = (within_of u (B / 2) (rw (pow-zero B, mul_one (B / 2)) at s), tt)
+digits_within B zero u h e s = (within_of u (B / 2) (rw (pow-zero B, mul-one (B / 2)) at s), tt)
 digits_within B (suc k) u h e s =
     let m : B / 2 * B ^ suc k ≡ B * (B / 2 * B ^ k) = shuffle (B / 2) B (B ^ k) (B ^ suc k) (pow-succ' B k) in
     (digit_within B u h e, digits_within B k (rest_of B u) h e (floor_bound B (B / 2) (B / 2 * B ^ k) u (omega arith) (rw m at s)))

@@ -5,7 +5,7 @@ use borrow.Author.Differences.{up, down}
 use lib.IntN.{suc_ℤ, *ℤ_comm, +ℤ_one, suc_ℤ-*ℤ}
 use lib.Signed.{mag}
 use Rattle.std.proofs.lemmas.Int.{ints}
-use Rattle.std.proofs.lemmas.Nat.{div_below, pow_add, pow_pos, div-add-mod'}
+use Rattle.std.proofs.lemmas.Nat.{div_below, pow-add, pow_pos, div-add-mod'}
 use Rattle.algebra.specs.Ints.{floor_z}
 
 -- the quotient leaves less than the divisor
@@ -47,7 +47,7 @@ floor_fits (negsuc a) b h f = omega (arith, ints)
 pub product_fits : (z : ℤ) (w : ℕ) → w ≤ 16 → SFits w64 z → SFits w64 (floor_z z (2 ^ w) *ℤ pos (2 ^ w))
 product_fits (pos a) w h f = omega (arith, ints, div-add-mod' a (2 ^ w))
 product_fits (negsuc a) w h f =
-    let e : 2 ^ (63 - w) * 2 ^ w ≡ 2 ^ 63 = (let k : 63 - w + w ≡ 63 = omega arith in sym (pow_add 2 (63 - w) w) ∙ ap (λ (n : ℕ). 2 ^ n) k) in
+    let e : 2 ^ (63 - w) * 2 ^ w ≡ 2 ^ 63 = (let k : 63 - w + w ≡ 63 = omega arith in sym (pow-add 2 (63 - w) w) ∙ ap (λ (n : ℕ). 2 ^ n) k) in
     let d : a / 2 ^ w < 2 ^ (63 - w) = div_below a (2 ^ w) (2 ^ (63 - w)) (pow_pos w) (rw e (omega (arith, ints))) in
     let m = mul-le-mul_left (2 ^ w) d in
     omega (arith, ints, m)

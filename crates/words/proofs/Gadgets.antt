@@ -1,7 +1,7 @@
 -- What the numbers of a gadget are refused for is the least fault that is true of them; and the facts of one that is made.
 use Rattle.std.proofs.Common.{◌≡◌, ℕ, zero, suc, ◌+◌, ◌-◌, ◌*◌, ◌/◌, ◌%◌, ◌^◌, ◌<◌, ◌≤◌, Bool, true, false, cond, ◌&&◌, eqb, leb, ◌⊎◌, sym, refl, ap, ◌∙◌, subst, inl, inr, add_comm, mul-zero, mul-suc, arith}
 use native.Mathlib.Nat.{pow-zero, pow-succ'}
-use Rattle.std.proofs.lemmas.Nat.{pow_add, pow_below, pow_pos, one_shl}
+use Rattle.std.proofs.lemmas.Nat.{pow-add, pow_below, pow_pos, one_shl}
 use Rattle.std.proofs.lemmas.Bool.{eqb-true, eqb-false, eq-eqb, leb-true, leb-false, le-leb, lt-leb, and_parts, and_from, and_cases, and_left, and_right, both_ways, cases_order}
 use Rattle.faults.specs.declared.fault.Fault.{Fault}
 use Rattle.faults.specs.declared.fault.Fault.TheVariants.{Field, Cover}
@@ -18,11 +18,11 @@ pub power_times : (w d : ℕ) → (2 ^ w) ^ d ≡ 2 ^ (w * d)
 power_times w zero = pow-zero (2 ^ w) ∙ ap (λ (n : ℕ). 2 ^ n) (sym (mul-zero w))
 power_times w (suc d) =
     let e : w + w * d ≡ w * suc d = omega (arith, mul-suc w d) in
-    pow-succ' (2 ^ w) d ∙ ap (λ (n : ℕ). 2 ^ w * n) (power_times w d) ∙ sym (pow_add 2 w (w * d)) ∙ ap (λ (n : ℕ). 2 ^ n) e
+    pow-succ' (2 ^ w) d ∙ ap (λ (n : ℕ). 2 ^ w * n) (power_times w d) ∙ sym (pow-add 2 w (w * d)) ∙ ap (λ (n : ℕ). 2 ^ n) e
 
 -- the reach of the digits as one power of two
 pub reach_is : (s w d : ℕ) → 2 ^ s * (2 ^ w) ^ d ≡ 2 ^ (s + w * d)
-reach_is s w d = ap (λ (n : ℕ). 2 ^ s * n) (power_times w d) ∙ sym (pow_add 2 s (w * d))
+reach_is s w d = ap (λ (n : ℕ). 2 ^ s * n) (power_times w d) ∙ sym (pow-add 2 s (w * d))
 
 pub covers_not : (R s w d : ℕ) → 40 < s + w * d → covers R (2 ^ s) (2 ^ w) d ≡ false
 covers_not R s w d h =

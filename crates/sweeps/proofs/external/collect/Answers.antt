@@ -1,4 +1,4 @@
-use Rattle.std.proofs.Common.{◌≡◌, ℕ, ◌+◌, ◌*◌, ◌≤◌, ap, ◌∙◌, mul-le-mul_left, mul_one, arith}
+use Rattle.std.proofs.Common.{◌≡◌, ℕ, ◌+◌, ◌*◌, ◌≤◌, ap, ◌∙◌, mul-le-mul_left, mul-one, arith}
 use Rattle.sweeps.proofs.Calls.{words_are}
 use Rattle.sweeps.proofs.Takes.{collected}
 use Rattle.sweeps.proofs.external.collect.Goals as goal
@@ -9,7 +9,7 @@ overflow-mul-j g c =
     let m = c.args.j * n.digits + n.digits in
     let e : m * 1 ≤ m * n.degree = mul-le-mul_left m (omega (arith, c.args.set.now.within.lengths)) in
     let f : c.args.j * c.digits-2.result ≡ c.args.j * n.digits = ap (λ (x : ℕ). c.args.j * x) c.digits-2.ensures.value in
-    omega (arith, c.requires.keys, mul_one m, f)
+    omega (arith, c.requires.keys, mul-one m, f)
 
 pub returns : goal.returns
 returns g c =

@@ -1,4 +1,4 @@
-use Rattle.std.proofs.Common.{◌≡◌, ℕ, ◌+◌, ◌*◌, ◌<◌, ◌≤◌, List, length, sym, refl, ap, ◌∙◌, mul-le-mul_left, mul_one, arith}
+use Rattle.std.proofs.Common.{◌≡◌, ℕ, ◌+◌, ◌*◌, ◌<◌, ◌≤◌, List, length, sym, refl, ap, ◌∙◌, mul-le-mul_left, mul-one, arith}
 use Rattle.algebra.specs.Polys.{Poly}
 use Rattle.algebra.specs.Words.{coeffs, words}
 use Rattle.sweeps.specs.Forms.{row_of}
@@ -18,7 +18,7 @@ overflow-add-first g c =
     let n = c.args.ring.now.degree in
     let m = c.args.first + c.args.count in
     let e : m * 1 ≤ m * n = mul-le-mul_left m (omega (arith, c.args.ring.now.range)) in
-    omega (arith, c.requires.keys, mul_one m)
+    omega (arith, c.requires.keys, mul-one m)
 
 pub row-requires-in-loop-i : goal.row-requires-in-loop-i
 row-requires-in-loop-i g c =

@@ -18,7 +18,7 @@ overflow-sub-result c =
 
 pub returns : goal.returns
 returns c =
-    let e : c.floor-by.result ≡ floor_z c.args.u (2 ^ c.args.width) =
-    c.floor-by.ensures ∙ ap (λ (z : ℤ). floor_z z (2 ^ c.args.width)) (to_z-of_z w64 c.args.u c.ranges.u) in
-    let v = left_is c.args.u c.floor-by.result c.base-of.result c.args.width c.requires c.ranges.u e c.base-of.ensures in
+    let e : c.floor_by.result ≡ floor_z c.args.u (2 ^ c.args.width) =
+    c.floor_by.ensures ∙ ap (λ (z : ℤ). floor_z z (2 ^ c.args.width)) (to_z-of_z w64 c.args.u c.ranges.u) in
+    let v = left_is c.args.u c.floor_by.result c.base_of.result c.args.width c.requires c.ranges.u e c.base_of.ensures in
     record { value = v; low = rw v (left_low c.args.u c.args.width); high = rw v (left_high c.args.u c.args.width) }
