@@ -11,8 +11,8 @@ shift-requires c =
       to = row_fits c.args.z c.width-w.result _ c.args.count (length c.args.regs.now) c.width-w.ensures.value c.requires.whole c.requires.to;
     }
 
-pub reduce-row-requires : goal.reduce-row-requires
-reduce-row-requires c =
+pub reduce_row-requires : goal.reduce_row-requires
+reduce_row-requires c =
     let fits : c.args.z * c.width-w.result + c.width-w.result ≤ length c.args.regs.now =
     row_fits c.args.z c.width-w.result _ c.args.count (length c.args.regs.now) c.width-w.ensures.value c.requires.whole c.requires.to in
     record { some = omega arith; inside = omega arith }
@@ -23,8 +23,8 @@ returns c =
     let w = c.width-w.result in
     let mid = c.shift.new.regs in
     let z = c.args.z in
-    moved (λ t. reduced (wide m) m.small t) w (wide m) c.args.x z c.args.count c.args.regs.now mid c.reduce-row.new.regs
+    moved (λ t. reduced (wide m) m.small t) w (wide m) c.args.x z c.args.count c.args.regs.now mid c.reduce_row.new.regs
     c.width-w.ensures.value c.requires.whole c.requires.from c.requires.to c.shift.ensures
-    (c.reduce-row.ensures
+    (c.reduce_row.ensures
     ∙ ap (λ (k : ℕ). put_mid (z * w) w mid (reduced k c.small.result (row_at w z mid))) c.width-w.ensures.value
     ∙ ap (λ (k : ℕ). put_mid (z * w) w mid (reduced (wide m) k (row_at w z mid))) c.small.ensures.value)

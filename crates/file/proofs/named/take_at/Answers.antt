@@ -2,8 +2,8 @@ use Rattle.std.proofs.Common.{length, sym, ◌∙◌, arith}
 use Rattle.file.proofs.Memory.{row_fits}
 use Rattle.file.proofs.named.take_at.Goals as goal
 
-pub take-out-requires : goal.take-out-requires
-take-out-requires c =
+pub take_out-requires : goal.take_out-requires
+take_out-requires c =
     record {
       some = omega arith;
       inside = row_fits c.args.x c.width.result _ c.args.count (length c.args.regs.now) c.width.ensures.value c.requires.whole c.requires.low;

@@ -3,4 +3,4 @@ use Rattle.file.proofs.Refusals.{new_least}
 use Rattle.file.proofs.refuse.refuse_new.Goals as goal
 
 pub returns : goal.returns
-returns c = record { answer = c.new-fault.ensures; least = new_least (numbers_of c.args.set.now) c.args.count c.args.len }
+returns c = record { answer = c.new_fault.ensures; least = new_least (numbers_of c.args.set.now) c.args.count c.args.len }

@@ -4,4 +4,4 @@ use Rattle.file.proofs.Refusals.{op_least}
 use Rattle.file.proofs.refuse.refuse_op.Goals as goal
 
 pub returns : goal.returns
-returns c = record { answer = c.op-fault.ensures; least = op_least (numbers_of c.args.set.now) (state_of c.args.file.now c.args.regs.now) c.args.op }
+returns c = record { answer = c.op_fault.ensures; least = op_least (numbers_of c.args.set.now) (state_of c.args.file.now c.args.regs.now) c.args.op }

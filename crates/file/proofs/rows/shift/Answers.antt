@@ -9,6 +9,6 @@ returns c =
     let w = c.args.w in
     let at = c.args.x * w in
     let n : (at + w) - at ≡ w = omega arith in
-    c.copy-within.ensures.after
+    c.copy_within.ensures.after
     ∙ ap (λ (k : ℕ). paste memory (c.args.z * w) (drop at memory) k) n
     ∙ pasted w memory (c.args.z * w) (drop at memory)

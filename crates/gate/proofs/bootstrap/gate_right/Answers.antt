@@ -15,7 +15,7 @@ returns g c =
     let keys = read_rows reads n.degree many c.args.selectors.now in
     let rows = c.args.rows.now in
     let e = c.refresh.ensures
-    ∙ gate_from g.S.Sweep.defined n c.args.letter start keys rows c.args.x.now c.args.y.now c.combine-right-combined.new.out c.combine-right-combined.ensures.out in
+    ∙ gate_from g.S.Sweep.defined n c.args.letter start keys rows c.args.x.now c.args.y.now c.combine_right-combined.new.out c.combine_right-combined.ensures.out in
     record {
       words = e;
       holds = subst (λ (r : List ℕ). GateHolds g.S.Sweep.noise g.S.Sweep.count g.S.Sweep.message set c.args.letter start keys rows c.args.x.now c.args.y.now r) (sym e)

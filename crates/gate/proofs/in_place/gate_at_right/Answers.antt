@@ -21,10 +21,10 @@ returns g c =
     let ys : List ℕ = register_at n regs c.args.y in
     let new : List ℕ = gate_of defined n l start keys rows xs ys in
     let e : c.refresh.new.out ≡ new = c.refresh.ensures
-    ∙ gate_from defined n l start keys rows xs ys c.combine-at-combined.new.out c.combine-at-combined.ensures in
-    let m : ℕ = c.words-of-words.result in
+    ∙ gate_from defined n l start keys rows xs ys c.combine_at-combined.new.out c.combine_at-combined.ensures in
+    let m : ℕ = c.words_of-words.result in
     let put : put_mid (c.args.z * m) (c.args.z * m + m - c.args.z * m) regs c.refresh.new.out ≡ with_register n regs c.args.z new =
-    put_register n regs c.refresh.new.out c.args.z m c.words-of-words.ensures.value
+    put_register n regs c.refresh.new.out c.args.z m c.words_of-words.ensures.value
     ∙ ap (λ (v : List ℕ). with_register n regs c.args.z v) e in
     record {
       words = put;

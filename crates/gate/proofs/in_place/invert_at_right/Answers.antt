@@ -8,14 +8,14 @@ use Rattle.gate.proofs.Opposite.{inverts, invert_long, registers_apart, inverted
 use Rattle.gate.proofs.Reach.{register_new}
 use Rattle.gate.proofs.in_place.invert_at_right.Goals as goal
 
-pub invert-part-requires : goal.invert-part-requires
-invert-part-requires c =
+pub invert_part-requires : goal.invert_part-requires
+invert_part-requires c =
     let n = c.args.set.now.within.numbers in
     let x : ℕ = c.args.x in
     let z : ℕ = c.args.z in
     let len : ℕ = length c.args.registers.now in
-    let m : ℕ = c.words-of-words.result in
-    let w = sym c.words-of-words.ensures.value in
+    let m : ℕ = c.words_of-words.result in
+    let w = sym c.words_of-words.ensures.value in
     let d = sym c.dimension.ensures.value in
     record {
       some = omega (arith, c.small.ensures.range);
@@ -32,8 +32,8 @@ returns c =
     let x : ℕ = c.args.x in
     let z : ℕ = c.args.z in
     let k : ℕ = c.dimension.result in
-    let e = c.invert-part.ensures
-    ∙ ap (λ (m : ℕ). paste regs (z * m) (invert k c.small.result (take (k + 1) (drop (x * m) regs))) (k + 1)) c.words-of-words.ensures.value
+    let e = c.invert_part.ensures
+    ∙ ap (λ (m : ℕ). paste regs (z * m) (invert k c.small.result (take (k + 1) (drop (x * m) regs))) (k + 1)) c.words_of-words.ensures.value
     ∙ ap₂ (λ (d q : ℕ). paste regs (z * words_of n) (invert d q (take (d + 1) (drop (x * words_of n) regs))) (d + 1)) c.dimension.ensures.value c.small.ensures.value
     ∙ inverted_register n regs x z in
     record {

@@ -7,7 +7,7 @@ use Rattle.gate.proofs.inverse.invert_right.Goals as goal
 pub returns : goal.returns
 returns c =
     let w = c.args.set.now.within in
-    let e = c.invert-words.ensures ∙ ap₂ (λ (n q : ℕ). invert n q c.args.x.now) c.dimension.ensures.value c.small.ensures.value in
+    let e = c.invert_words.ensures ∙ ap₂ (λ (n q : ℕ). invert n q c.args.x.now) c.dimension.ensures.value c.small.ensures.value in
     record {
       words = e;
       holds = subst (λ (r : List ℕ). InvertHolds w c.args.x.now r) (sym e) (inverts w c.args.x.now);

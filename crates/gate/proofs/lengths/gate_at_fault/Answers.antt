@@ -6,16 +6,16 @@ pub returns : goal.returns
 returns c =
     let n = c.args.set.now.within.numbers in
     let d = c.degree.ensures.value in
-    let w = c.words-of.ensures.value in
-    let k = c.start-length.ensures in
-    let s = c.selectors-length.ensures in
-    let r = c.rows-length.ensures in
-    let g = c.gate-work.ensures in
-    let t = c.at-least.ensures ∙ ap (λ (m : ℕ). max c.args.registers m) c.reach.ensures in
-    let a = c.first-wrong.ensures.answer in
+    let w = c.words_of.ensures.value in
+    let k = c.start_length.ensures in
+    let s = c.selectors_length.ensures in
+    let r = c.rows_length.ensures in
+    let g = c.gate_work.ensures in
+    let t = c.at_least.ensures ∙ ap (λ (m : ℕ). max c.args.registers m) c.reach.ensures in
+    let a = c.first_wrong.ensures.answer in
     record {
       answer = cc (a, d, w, k, s, r, g, t);
-      fits = λ e. let h = c.first-wrong.ensures.fits e in let m = h.1.1.1.0 ∙ t in record {
+      fits = λ e. let h = c.first_wrong.ensures.fits e in let m = h.1.1.1.0 ∙ t in record {
         start_long = h.0 ∙ k;
         selectors_long = h.1.0 ∙ s;
         rows_long = h.1.1.0 ∙ r;

@@ -4,15 +4,15 @@ use Rattle.gate.proofs.lengths.gate_fault.Goals as goal
 pub returns : goal.returns
 returns c =
     let d = c.degree.ensures.value in
-    let w = c.words-of-words.ensures.value in
-    let k = c.start-length.ensures in
-    let s = c.selectors-length.ensures in
-    let r = c.rows-length.ensures in
-    let g = c.gate-work.ensures in
-    let a = c.first-wrong.ensures.answer in
+    let w = c.words_of-words.ensures.value in
+    let k = c.start_length.ensures in
+    let s = c.selectors_length.ensures in
+    let r = c.rows_length.ensures in
+    let g = c.gate_work.ensures in
+    let a = c.first_wrong.ensures.answer in
     record {
       answer = cc (a, d, w, k, s, r, g);
-      fits = λ e. let h = c.first-wrong.ensures.fits e in record {
+      fits = λ e. let h = c.first_wrong.ensures.fits e in record {
         x_long = h.0 ∙ w;
         y_long = h.1.0 ∙ w;
         out_long = h.1.1.0 ∙ w;

@@ -4,13 +4,13 @@ use Rattle.gate.proofs.lengths.sweep_fault.Goals as goal
 pub returns : goal.returns
 returns c =
     let d = c.degree-degree.ensures.value in
-    let w = c.words-of.ensures.value in
-    let k = c.selectors-length.ensures in
-    let s = c.sweep-work.ensures.value in
-    let a = c.first-wrong.ensures.answer in
+    let w = c.words_of.ensures.value in
+    let k = c.selectors_length.ensures in
+    let s = c.sweep_work.ensures.value in
+    let a = c.first_wrong.ensures.answer in
     record {
       answer = cc (a, d, w, k, s);
-      fits = λ e. let h = c.first-wrong.ensures.fits e in record {
+      fits = λ e. let h = c.first_wrong.ensures.fits e in record {
         combined_long = h.0 ∙ w;
         acc_long = h.1.0 ∙ d;
         keys_long = h.1.1.0 ∙ k;

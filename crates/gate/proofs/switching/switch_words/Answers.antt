@@ -13,11 +13,11 @@ returns c =
     let N : ℕ = c.args.degree in
     let xs : List ℕ = c.args.words.now in
     let rows : List ℕ = c.args.rows.now in
-    let long : length c.add-words.new.out ≡ c.args.last + 1 = omega arith in
+    let long : length c.add_words.new.out ≡ c.args.last + 1 = omega arith in
     let front : length (take (c.args.degree - 0) (drop 0 c.args.words.now)) ≡ c.args.degree =
     length-take (c.args.degree - 0) c.args.words.now ∙ omega (arith, c.requires.words) in
     let old : length c.begin.new.out ≡ c.args.last + 1 = omega arith in
     c.settle.ensures
-    ∙ ap₂ (λ (l m : ℕ). reduced l m c.add-words.new.out) long c.get.ensures.value
-    ∙ switched_from g N n xs rows c.begin.new.out c.add-words.new.out c.requires.whole c.requires.divides c.begin.ensures long
-    (added_lengths g c.begin.new.out c.add-words.new.out (take (N - 0) (drop 0 xs)) rows N (n + 1) front old c.add-words.ensures)
+    ∙ ap₂ (λ (l m : ℕ). reduced l m c.add_words.new.out) long c.get.ensures.value
+    ∙ switched_from g N n xs rows c.begin.new.out c.add_words.new.out c.requires.whole c.requires.divides c.begin.ensures long
+    (added_lengths g c.begin.new.out c.add_words.new.out (take (N - 0) (drop 0 xs)) rows N (n + 1) front old c.add_words.ensures)

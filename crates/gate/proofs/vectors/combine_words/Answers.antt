@@ -16,5 +16,5 @@ loop-i-preserved c =
     -ℤ pos (c.args.times * (get_or c.args.x.now k 0 + get_or c.args.y.now k 0))))
     c.loop-i.out c.loop-i.i c.minus.result (omega arith)
     (c.minus.ensures.value
-    ∙ ap₂ (λ (h s : ℕ). word_of q (pos h -ℤ pos s)) c.at-last.ensures c.added.ensures)
+    ∙ ap₂ (λ (h s : ℕ). word_of q (pos h -ℤ pos s)) c.at_last.ensures c.added.ensures)
     c.loop-i.invariant

@@ -24,7 +24,7 @@ loop-i-preserved c =
     let l : c.loop-i.i < c.args.last + 1 = omega arith in
     let out = apart_outside c.args.last c.args.modulus c.args.from c.args.to c.args.words.now c.loop-i.i l c.requires.apart in
     let read = c.loop-i.invariant.1 (from + i) out in
-    let v = c.minus.ensures.value ∙ ap₂ (λ (h x : ℕ). word_of q (pos h -ℤ pos x)) c.at-last.ensures read in (
+    let v = c.minus.ensures.value ∙ ap₂ (λ (h x : ℕ). word_of q (pos h -ℤ pos x)) c.at_last.ensures read in (
       ap (λ (ws : List ℕ). set ws (to + i) c.minus.result) c.loop-i.invariant.0 ∙ part_more n q from to old i c.minus.result l c.requires.to v,
       λ j h. elim h [
         | inl a ↦ get_or-set_other c.loop-i.words (to + i) j c.minus.result 0 (let ne : j ≢ c.args.to + c.loop-i.i = omega arith in ne) ∙ c.loop-i.invariant.1 j (inl a)

@@ -6,7 +6,7 @@ use Rattle.image.proofs.bytes.words_into.Goals as goal
 
 pub loop-i-preserved : goal.loop-i-preserved
 loop-i-preserved c = λ k h.
-    ap (λ (v : ℕ). get_or (set c.loop-i.out c.loop-i.i v) k 0) c.nth-word.ensures
+    ap (λ (v : ℕ). get_or (set c.loop-i.out c.loop-i.i v) k 0) c.nth_word.ensures
     ∙ fill_by_more (λ j. word_at c.args.part.now (4 * j)) c.loop-i.out c.loop-i.i 0 (omega arith) c.loop-i.invariant k h
 
 pub returns : goal.returns

@@ -3,8 +3,8 @@ use Rattle.kernels.specs.Polynomials.{Below}
 use Rattle.kernels.specs.Reduced.{reduced_same, reduced_poly}
 use Rattle.kernels.proofs.remainders.settle.Goals as goal
 
-pub returns-then-not-all-below : goal.returns-then-not-all-below
-returns-then-not-all-below c =
+pub returns-then-not-all_below : goal.returns-then-not-all_below
+returns-then-not-all_below c =
     let Q = c.args.modulus in
     let w = c.args.words.now in
     record {
@@ -12,9 +12,9 @@ returns-then-not-all-below c =
       below = subst (λ (i : List ℕ). Below Q i) (sym c.divide.ensures) (reduced_poly (length w) Q w c.requires).1;
     }
 
-pub returns-else-not-all-below : goal.returns-else-not-all-below
-returns-else-not-all-below c =
-    let all = c.all_below.ensures c.if-not-all-below.false in
+pub returns-else-not-all_below : goal.returns-else-not-all_below
+returns-else-not-all_below c =
+    let all = c.all_below.ensures c.if-not-all_below.false in
     record {
       same = reduced_same (length c.args.words.now) c.args.modulus c.args.words.now (refl, all);
       below = all;

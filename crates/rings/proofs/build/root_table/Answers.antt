@@ -2,8 +2,8 @@ use Rattle.std.proofs.Common.{arith}
 use Rattle.rings.proofs.Built.{table_fits}
 use Rattle.rings.proofs.build.root_table.Goals as goal
 
-pub fill-roots-requires : goal.fill-roots-requires
-fill-roots-requires c = record {
+pub fill_roots-requires : goal.fill_roots-requires
+fill_roots-requires c = record {
   few = c.requires.few;
   some = c.requires.some;
   size = c.requires.size;

@@ -2,8 +2,8 @@ use Rattle.std.proofs.Common.{◌%◌, ◌^◌, ◌<◌, ◌≢◌, length, refl
 use Rattle.rings.proofs.Mod.{power_next, power_first}
 use Rattle.rings.proofs.tables.fill_powers.Goals as goal
 
-pub overflow-cast-power : goal.overflow-cast-power
-overflow-cast-power c =
+pub overflow_cast-power : goal.overflow_cast-power
+overflow_cast-power c =
     let q0 : 0 < c.args.modulus = omega (arith, c.requires) in
     let l : c.args.base ^ c.loop-e.e % c.args.modulus < c.args.modulus =
     mod-lt (c.args.base ^ c.loop-e.e) q0 in

@@ -6,14 +6,14 @@ use Rattle.rings.proofs.tables.place.Goals as goal
 row : (c : goal.Start) → c.args.i / c.args.half < c.args.log
 row c = row_of c.args.log c.args.half c.args.i c.requires.size c.requires.within
 
-pub overflow-shl-m : goal.overflow-shl-m
-overflow-shl-m c = omega (arith, row c, c.requires.few)
+pub overflow_shl-m : goal.overflow_shl-m
+overflow_shl-m c = omega (arith, row c, c.requires.few)
 
-pub overflow-sub-result-2 : goal.overflow-sub-result-2
-overflow-sub-result-2 c = omega (arith, row c)
+pub overflow_sub-result-2 : goal.overflow_sub-result-2
+overflow_sub-result-2 c = omega (arith, row c)
 
-pub nonzero-rem-i-2 : goal.nonzero-rem-i-2
-nonzero-rem-i-2 c =
+pub nonzero_rem-i-2 : goal.nonzero_rem-i-2
+nonzero_rem-i-2 c =
     let s : ℕ = c.args.i / c.args.half in
     omega (arith, one_shift s (omega (arith, row c, c.requires.few)), pow_pos s)
 
@@ -43,14 +43,14 @@ here c =
     (row_of c.args.log c.args.half c.args.i c.requires.size c.requires.within)
     c.mirrored.ensures.low
 
-pub overflow-mul-result : goal.overflow-mul-result
-overflow-mul-result c = omega (arith, (here c).few)
+pub overflow_mul-result : goal.overflow_mul-result
+overflow_mul-result c = omega (arith, (here c).few)
 
-pub overflow-add-result : goal.overflow-add-result
-overflow-add-result c = omega (arith, (here c).few)
+pub overflow_add-result : goal.overflow_add-result
+overflow_add-result c = omega (arith, (here c).few)
 
-pub overflow-mul-result-2 : goal.overflow-mul-result-2
-overflow-mul-result-2 c = omega (arith, (here c).low, (here c).half-few)
+pub overflow_mul-result-2 : goal.overflow_mul-result-2
+overflow_mul-result-2 c = omega (arith, (here c).low, (here c).half-few)
 
 pub returns : goal.returns
 unfolding exponent

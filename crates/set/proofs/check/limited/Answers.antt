@@ -4,10 +4,10 @@ use Rattle.set.specs.Limits.{limits_broken}
 use Rattle.set.proofs.Limits.{limits_of}
 use Rattle.set.proofs.check.limited.Goals as goal
 
-pub invariant-of-result : goal.invariant-of-result
-invariant-of-result c =
+pub invariant_of-result : goal.invariant_of-result
+invariant_of-result c =
     let n = c.args.numbers in
-    let fit : is_some (limits_broken n) ≡ false = ap (λ (o : Option Fault). is_some o) (sym c.in-default.ensures) in
+    let fit : is_some (limits_broken n) ≡ false = ap (λ (o : Option Fault). is_some o) (sym c.in_default.ensures) in
     let l = limits_of n fit in
     let d = l.degree_ok.1 in
     let q = l.small_ok.1 in

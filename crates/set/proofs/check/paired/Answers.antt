@@ -9,15 +9,15 @@ use Rattle.set.proofs.Limits.{Short, or_first, or_next}
 use Rattle.set.proofs.Rules.{set_least}
 use Rattle.set.proofs.check.paired.Goals as goal
 
-pub returns-in-err-within : goal.returns-in-err-within
-returns-in-err-within c =
+pub returns-in_err-within : goal.returns-in_err-within
+returns-in_err-within c =
     let n = c.args.numbers in
     let short : Short n =
     record { degree_short = omega arith; small_short = omega arith; dropped_short = omega arith; base_short = omega arith; switch_short = omega arith; radix_short = omega arith } in
     let p = err_from_is_err_and c.from-residual.result c.from-residual.ensures.1 in
     rw (p.1, p.2)
     (record {
-      answer = sym (or_first (limits_broken n) (rules_broken n (paired_noise n)) c.in-err-within.field-0.0 (sym c.in-err-within.ensures.answer));
+      answer = sym (or_first (limits_broken n) (rules_broken n (paired_noise n)) c.in_err-within.field-0.0 (sym c.in_err-within.ensures.answer));
       made = tt;
       least = set_least n (paired_noise n) short;
     })
@@ -27,9 +27,9 @@ returns c =
     let n = c.args.numbers in
     let short : Short n =
     record { degree_short = omega arith; small_short = omega arith; dropped_short = omega arith; base_short = omega arith; switch_short = omega arith; radix_short = omega arith } in
-    let e : c.in-ok-within.within.numbers ≡ n = c.in-ok-within.ensures.made in
+    let e : c.in_ok-within.within.numbers ≡ n = c.in_ok-within.ensures.made in
     let v : c.paired.result ≡ paired_noise n = c.paired.ensures.value ∙ ap (λ (m : Numbers). paired_noise m) e in
-    let o = or_next (limits_broken n) (rules_broken n (paired_noise n)) (sym c.in-ok-within.ensures.answer) in
+    let o = or_next (limits_broken n) (rules_broken n (paired_noise n)) (sym c.in_ok-within.ensures.answer) in
     record {
       answer = c.checked.ensures.answer ∙ ap (λ x. rules_broken x c.paired.result) e ∙ ap (λ x. rules_broken n x) v ∙ sym o;
       made = IfOk-weaker c.checked.result _ _ (λ s p. (p.0 ∙ e, p.1 ∙ v)) c.checked.ensures.made;

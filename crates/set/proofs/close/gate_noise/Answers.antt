@@ -14,12 +14,12 @@ second w x h =
 third : (w : Within) → w.numbers.modulus * w.numbers.switch * (1 + w.numbers.ones) ≤ 2 ^ 100
 third w = third_small w.numbers.modulus w.numbers.switch w.numbers.ones w.moduli.3 w.switching.1 (let a = w.lengths.3 in let b = w.secrets.1 in omega arith)
 
-pub overflow-mul-first-3 : goal.overflow-mul-first-3
-overflow-mul-first-3 c = omega (arith, first c.args.within.now c.args.swept c.requires.swept)
+pub overflow_mul-first-3 : goal.overflow_mul-first-3
+overflow_mul-first-3 c = omega (arith, first c.args.within.now c.args.swept c.requires.swept)
 
-pub overflow-add-result : goal.overflow-add-result
-overflow-add-result c = omega (arith, first c.args.within.now c.args.swept c.requires.swept, second c.args.within.now c.args.switched c.requires.switched)
+pub overflow_add-result : goal.overflow_add-result
+overflow_add-result c = omega (arith, first c.args.within.now c.args.swept c.requires.swept, second c.args.within.now c.args.switched c.requires.switched)
 
-pub overflow-add-result-2 : goal.overflow-add-result-2
-overflow-add-result-2 c =
+pub overflow_add-result-2 : goal.overflow_add-result-2
+overflow_add-result-2 c =
     omega (arith, first c.args.within.now c.args.swept c.requires.swept, second c.args.within.now c.args.switched c.requires.switched, third c.args.within.now)

@@ -9,8 +9,8 @@ small w keys h =
     let d = drops_small (w.numbers.dropped / 2) w.numbers.weight (let s = w.split.0 in omega arith) (let s = w.secrets.0 in omega (arith, s, l)) in
     paired_small w.numbers.dimension keys (2 * (w.numbers.dropped / 2) * w.numbers.weight) l.3 h d
 
-pub overflow-mul-result-2 : goal.overflow-mul-result-2
-overflow-mul-result-2 c = omega (arith, small c.args.within.now c.product-keys.result c.product-keys.ensures.small)
+pub overflow_mul-result-2 : goal.overflow_mul-result-2
+overflow_mul-result-2 c = omega (arith, small c.args.within.now c.product-keys.result c.product-keys.ensures.small)
 
 pub returns : goal.returns
 returns c =

@@ -11,13 +11,13 @@ use Rattle.sweeps.specs.Checking.{StatedFor}
 use Rattle.sweeps.proofs.Unique.{within_same}
 use Rattle.sweeps.proofs.check.check_for.Goals as goal
 
-pub returns-in-err-within : goal.returns-in-err-within
-returns-in-err-within g c =
+pub returns-in_err-within : goal.returns-in_err-within
+returns-in_err-within g c =
     let n = c.args.numbers in
     let short : Short n =
     record { degree_short = omega arith; small_short = omega arith; dropped_short = omega arith; base_short = omega arith; switch_short = omega arith; radix_short = omega arith } in
     let p = err_from_is_err_and c.from-residual.result c.from-residual.ensures.1 in
-    let first = λ (stated : ℕ). sym (or_first (limits_broken n) (rules_broken n stated) c.in-err-within.field-0.0 (sym c.in-err-within.ensures.answer)) in
+    let first = λ (stated : ℕ). sym (or_first (limits_broken n) (rules_broken n stated) c.in_err-within.field-0.0 (sym c.in_err-within.ensures.answer)) in
     rw (p.1, p.2)
     (record {
       answer = λ stated h. first stated;
@@ -30,12 +30,12 @@ returns g c =
     let n = c.args.numbers in
     let short : Short n =
     record { degree_short = omega arith; small_short = omega arith; dropped_short = omega arith; base_short = omega arith; switch_short = omega arith; radix_short = omega arith } in
-    let w = c.in-ok-within.within in
-    let e : w.numbers ≡ n = c.in-ok-within.ensures.made in
+    let w = c.in_ok-within.within in
+    let e : w.numbers ≡ n = c.in_ok-within.ensures.made in
     let v : c.noise_of.result ≡ g.S.Sweep.noise w = c.noise_of.ensures in
     let said = λ (stated : ℕ) (h : StatedFor g.S.Sweep.noise n stated).
     c.checked.ensures.answer ∙ ap (λ (m : Numbers). rules_broken m c.noise_of.result) e ∙ ap (λ (x : ℕ). rules_broken n x) (v ∙ h w e)
-    ∙ sym (or_next (limits_broken n) (rules_broken n stated) (sym c.in-ok-within.ensures.answer)) in
+    ∙ sym (or_next (limits_broken n) (rules_broken n stated) (sym c.in_ok-within.ensures.answer)) in
     record {
       answer = said;
       made = IfOk-weaker c.checked.result _ _

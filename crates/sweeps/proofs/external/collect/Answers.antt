@@ -3,8 +3,8 @@ use Rattle.sweeps.proofs.Calls.{words_are}
 use Rattle.sweeps.proofs.Takes.{collected}
 use Rattle.sweeps.proofs.external.collect.Goals as goal
 
-pub overflow-mul-j : goal.overflow-mul-j
-overflow-mul-j g c =
+pub overflow_mul-j : goal.overflow_mul-j
+overflow_mul-j g c =
     let n = c.args.set.now.within.numbers in
     let m = c.args.j * n.digits + n.digits in
     let e : m * 1 ≤ m * n.degree = mul-le-mul_left m (omega (arith, c.args.set.now.within.lengths)) in

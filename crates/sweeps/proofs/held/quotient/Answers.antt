@@ -2,15 +2,15 @@ use Rattle.std.proofs.Common.{◌≡◌, ◌+◌, ◌-◌, ◌/◌, ◌^◌, ◌
 use Rattle.sweeps.proofs.Keeping.{quotient_value, quotient_held}
 use Rattle.sweeps.proofs.held.quotient.Goals as goal
 
-pub overflow-add-result-2 : goal.overflow-add-result-2
-overflow-add-result-2 c =
-    let e = c.half-of.ensures.value in
+pub overflow_add-result-2 : goal.overflow_add-result-2
+overflow_add-result-2 c =
+    let e = c.half_of.ensures.value in
     let h = quotient_held c.args.x c.args.width c.args.modulus c.requires.few c.requires.width c.requires.held in
     rw e (omega (arith, h.1))
 
 pub returns : goal.returns
 returns c =
-    let e = c.half-of.ensures.value in
+    let e = c.half_of.ensures.value in
     rw e (record {
       value = quotient_value c.args.x c.args.width c.args.modulus c.requires.few c.requires.width c.requires.held;
       held = quotient_held c.args.x c.args.width c.args.modulus c.requires.few c.requires.width c.requires.held;

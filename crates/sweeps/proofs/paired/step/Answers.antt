@@ -22,10 +22,10 @@ returns g c =
           let keys : List (List ℕ) = read_rows (g.K.Kernel.reads s.ring) n.degree total c.args.keys.now in
           paired_words n.degree n.modulus (turns n c.args.a) (turns n c.args.b) (turns n (c.args.a + c.args.b))
           (taken_by n keys (3 * i) old) (taken_by n keys (3 * i + 1) old) (taken_by n keys (3 * i + 2) old) (coeffs old)
-          c.add-taken.new.acc c.add-taken-2.new.acc c.add-taken-3.new.acc some
+          c.add_taken.new.acc c.add_taken-2.new.acc c.add_taken-3.new.acc some
           (mul-add ((n.degree + n.degree) / n.small) c.args.a c.args.b)
-          (c.add-taken.ensures.value old total (omega (arith, one, ends)) c.spread.ensures)
-          (c.add-taken-2.ensures.value old total (omega (arith, two, ends)) c.spread.ensures)
-          (c.add-taken-3.ensures.value old total ends c.spread.ensures);
-      poly = c.add-taken-3.ensures.poly;
+          (c.add_taken.ensures.value old total (omega (arith, one, ends)) c.spread.ensures)
+          (c.add_taken-2.ensures.value old total (omega (arith, two, ends)) c.spread.ensures)
+          (c.add_taken-3.ensures.value old total ends c.spread.ensures);
+      poly = c.add_taken-3.ensures.poly;
     }

@@ -10,8 +10,8 @@ fits z h = omega (arith, ints)
 product_fits : (a b : ℤ) → nat_abs a ≤ 2 ^ 31 → nat_abs b ≤ 2 ^ 31 + 1 → SFits w64 (a *ℤ b)
 product_fits a b h k = fits (a *ℤ b) (rw (abs_mul a b) (mul-le (nat_abs a) (nat_abs b) (2 ^ 31) (2 ^ 31 + 1) h k))
 
-pub overflow-mul-result : goal.overflow-mul-result
-overflow-mul-result c =
+pub overflow_mul-result : goal.overflow_mul-result
+overflow_mul-result c =
     let a = to_z-of_z w64 c.args.a c.ranges.a in
     let b = to_z-of_z w64 c.args.b c.ranges.b in
     rw (a, b) (product_fits c.args.a c.args.b c.requires.one c.requires.two)

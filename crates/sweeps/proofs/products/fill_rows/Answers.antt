@@ -9,8 +9,8 @@ use Rattle.sweeps.proofs.Calls.{words_in_lem}
 use Rattle.sweeps.proofs.Rows.{row_ends, row_same, row_below}
 use Rattle.sweeps.proofs.products.fill_rows.Goals as goal
 
-pub fill-row-requires : goal.fill-row-requires
-fill-row-requires g c =
+pub fill_row-requires : goal.fill_row-requires
+fill_row-requires g c =
     let h = row_ends c.loop-i.i c.args.ring.now.degree c.args.gadget.now.digits (omega arith) in
     record {
       same = c.requires.same;
@@ -38,14 +38,14 @@ loop-i-preserved g c =
     ∙ ap (λ (n : ℕ). digit B d (under (get_or c.args.rest.now k 0)) n) {x = i + 0} {y = i} (omega arith)) in
     let new = form r (words r.degree r.modulus p) in
     let long : length new ≡ r.degree = (g.met.K.Kernel.forms.below r (words r.degree r.modulus p) (words_in_lem r p)).0 in
-    let wrote = c.fill-row.ensures.rows in (
+    let wrote = c.fill_row.ensures.rows in (
       below_more _ _
           (λ j l. ap (λ (w : List ℕ). row_of r.degree w j) wrote ∙ row_below r.degree i j rows new l ends ∙ c.loop-i.invariant.0 j l)
           (ap (λ (w : List ℕ). row_of r.degree w i) wrote ∙ row_same r.degree i rows new ends long ∙ ap (form r) same),
       (λ k j l m.
-          ap (λ (n : ℕ). digit B n (under (get_or c.fill-row.new.rest k 0)) j) {x = d - (i + 1)} {y = d - i - 1} (omega arith)
-          ∙ c.fill-row.ensures.rest k j (omega (arith, c.requires.rest)) (omega arith)
+          ap (λ (n : ℕ). digit B n (under (get_or c.fill_row.new.rest k 0)) j) {x = d - (i + 1)} {y = d - i - 1} (omega arith)
+          ∙ c.fill_row.ensures.rest k j (omega (arith, c.requires.rest)) (omega arith)
           ∙ c.loop-i.invariant.1 k (j + 1) l (omega arith)
           ∙ ap (λ (n : ℕ). digit B d (under (get_or c.args.rest.now k 0)) n) {x = i + (j + 1)} {y = i + 1 + j} (omega arith)),
-      c.fill-row.ensures.held,
+      c.fill_row.ensures.held,
     )

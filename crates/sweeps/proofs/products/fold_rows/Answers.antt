@@ -13,8 +13,8 @@ loop-i-init g c = c.requires.zero ∙ taken_none c.args.ring.now.degree c.args.r
 pub row-requires : goal.row-requires
 row-requires g c = omega (arith, row_ends c.loop-i.i c.args.ring.now.degree c.args.count c.loop-i-test.true, c.requires.rows)
 
-pub overflow-add-first : goal.overflow-add-first
-overflow-add-first g c =
+pub overflow_add-first : goal.overflow_add-first
+overflow_add-first g c =
     let n = c.args.ring.now.degree in
     let m = c.args.first + c.args.count in
     let e : m * 1 ≤ m * n = mul-le-mul_left m (omega (arith, c.args.ring.now.range)) in

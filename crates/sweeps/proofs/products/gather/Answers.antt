@@ -4,8 +4,8 @@ use Rattle.kernels.specs.Polynomials.{poly_of}
 use Rattle.sweeps.proofs.Calls.{after_two, poly_zeros, reads_turned}
 use Rattle.sweeps.proofs.products.gather.Goals as goal
 
-pub fold-rows-requires : goal.fold-rows-requires
-fold-rows-requires g c =
+pub fold_rows-requires : goal.fold_rows-requires
+fold_rows-requires g c =
     let r = c.args.ring.now in
     let k = g.K.Kernel in
     let zeros : c.fill.new.self ≡ replicate r.degree 0 =

@@ -10,6 +10,6 @@ pub returns : goal.returns
 returns g c i h =
     let r = c.args.ring.now in
     let t = c.args.gadget.now in
-    reads_turned g.met.K.Kernel.forms r (λ k. digit (2 ^ t.width) t.digits (under (get_or c.lower.new.rest k 0)) i) _ (c.fill-rows.ensures i h)
+    reads_turned g.met.K.Kernel.forms r (λ k. digit (2 ^ t.width) t.digits (under (get_or c.lower.new.rest k 0)) i) _ (c.fill_rows.ensures i h)
     ∙ words_each r.degree r.modulus _ (split r.modulus (2 ^ t.shift) (2 ^ t.width) t.digits c.args.acc.now i)
     (λ k l. ap (λ (z : ℤ). digit (2 ^ t.width) t.digits z i) (c.lower.ensures.value k (omega (arith, c.requires.acc.0))))

@@ -13,10 +13,10 @@ returns g c =
     let some : 0 < n.modulus = omega (arith, s.within.moduli) in
     record {
       value = λ old total ends spread.
-          c.turn-onto.ensures.value
+          c.turn_onto.ensures.value
           ∙ stepped_words n.degree n.modulus (turns n c.args.e)
           (taken_by n (read_rows (g.K.Kernel.reads s.ring) n.degree total c.args.keys.now) c.args.j old)
           c.collect.new.sum (coeffs c.args.acc.now) some
           (c.collect.ensures.value old total ends spread);
-      poly = c.turn-onto.ensures.poly;
+      poly = c.turn_onto.ensures.poly;
     }

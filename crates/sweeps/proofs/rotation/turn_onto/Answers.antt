@@ -15,11 +15,11 @@ returns c =
     let acc = c.args.acc.now in
     let long : length acc ≡ n.degree = c.requires.acc.0 ∙ s.same.0 in
     let whole : c.ring.result.now.modulus ≡ n.modulus = ap (λ r. r.modulus) c.ring.ensures ∙ s.same.1 in
-    let t = c.turn-of.result in
-    let made : c.mix-turned.new.acc ≡ words n.degree n.modulus (stepped n.degree (turns n c.args.e) (coeffs sum) (coeffs acc)) =
-    c.mix-turned.ensures
+    let t = c.turn_of.result in
+    let made : c.mix_turned.new.acc ≡ words n.degree n.modulus (stepped n.degree (turns n c.args.e) (coeffs sum) (coeffs acc)) =
+    c.mix_turned.ensures
     ∙ ap (λ (N : ℕ). words N c.ring.result.now.modulus (stepped N t (coeffs sum) (coeffs acc))) long
     ∙ ap (λ (Q : ℕ). words n.degree Q (stepped n.degree t (coeffs sum) (coeffs acc))) whole
     ∙ stepped_agree n.degree n.modulus t (turns n c.args.e) (coeffs sum) (coeffs acc)
-    (ap (λ (m : ℕ). m % (n.degree + n.degree)) c.turn-of.ensures.value ∙ mod-mod (turns n c.args.e) (n.degree + n.degree)) in
-    record { value = made; poly = words_set s _ c.mix-turned.new.acc made }
+    (ap (λ (m : ℕ). m % (n.degree + n.degree)) c.turn_of.ensures.value ∙ mod-mod (turns n c.args.e) (n.degree + n.degree)) in
+    record { value = made; poly = words_set s _ c.mix_turned.new.acc made }

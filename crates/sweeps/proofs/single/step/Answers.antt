@@ -5,6 +5,6 @@ pub returns : goal.returns
 unfolding single_step
 returns g c =
     record {
-      value = λ total ends. c.add-taken.ensures.value c.args.acc.now total ends c.spread.ensures;
-      poly = c.add-taken.ensures.poly;
+      value = λ total ends. c.add_taken.ensures.value c.args.acc.now total ends c.spread.ensures;
+      poly = c.add_taken.ensures.poly;
     }

@@ -2,12 +2,12 @@ use Rattle.std.proofs.Common.{◌∙◌, arith}
 use Rattle.transform.proofs.Shoup.{nearly}
 use Rattle.transform.proofs.field.mul_shoup.Goals as goal
 
-pub reduce-once-requires : goal.reduce-once-requires
-reduce-once-requires c =
+pub reduce_once-requires : goal.reduce_once-requires
+reduce_once-requires c =
     let n = nearly c.args.x c.args.factor c.args.quotient c.args.modulus c.requires.low c.requires.fits (omega arith) c.requires.shoup in
     record { low = n.low; fits = c.requires.fits }
 
 pub returns : goal.returns
 returns c =
     let n = nearly c.args.x c.args.factor c.args.quotient c.args.modulus c.requires.low c.requires.fits (omega arith) c.requires.shoup in
-    c.reduce-once.ensures ∙ n.same
+    c.reduce_once.ensures ∙ n.same

@@ -2,8 +2,8 @@ use Rattle.std.proofs.Common.{arith}
 use Rattle.transform.proofs.Folding.{pointwise_from}
 use Rattle.transform.proofs.pointwise.fuse_low.Goals as goal
 
-pub fuse-word-requires : goal.fuse-word-requires
-fuse-word-requires c =
+pub fuse_word-requires : goal.fuse_word-requires
+fuse_word-requires c =
     let r = c.args.ring.now in
     let i = c.loop-i.i in
     record {

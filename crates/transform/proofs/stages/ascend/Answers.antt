@@ -23,5 +23,5 @@ returns-then-log-eq1 c =
     let k : 2 * c.loop-k.k ≡ r.log - 1 = omega (arith, c.loop-k-test.false, c.loop-k.auto.k-end) in
     let m : r.log ≡ r.log - 1 + 1 = omega (arith, r.size.2) in
     let before = c.loop-k.invariant.0 ∙ ap (λ i. runs r i f) k in
-    c.copy-from-slice.ensures.after
+    c.copy_from_slice.ensures.after
     ∙ runs_more r (r.log - 1) r.log f c.loop-k.a c.forth-then-log-eq1.new.y m before c.forth-then-log-eq1.ensures.same

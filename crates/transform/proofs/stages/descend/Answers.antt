@@ -26,5 +26,5 @@ returns-then-log-eq1 c =
     let k : 2 * c.loop-k.k ≡ r.log - 1 = omega (arith, c.loop-k-test.false, c.loop-k.auto.k-end) in
     let m : r.log ≡ r.log - 1 + 1 = omega (arith, r.size.2) in
     let before = c.loop-k.invariant.0 ∙ ap (λ i. unruns r i y) k in
-    c.copy-from-slice.ensures.after
+    c.copy_from_slice.ensures.after
     ∙ unruns_more r (r.log - 1) r.log 0 y c.loop-k.a c.aback-then-log-eq1.new.x m (omega arith) before c.aback-then-log-eq1.ensures.same

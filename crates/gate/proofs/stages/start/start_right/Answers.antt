@@ -15,12 +15,12 @@ returns g c =
     let e : ℕ = turns n (get_or c.args.combined.now n.dimension 0) in
     let some : 0 < c.args.set.now.within.numbers.modulus = omega (arith, c.args.set.now.within.moduli.2) in
     record {
-      token = omega (arith, c.take-start.auto.acc, c.begin.auto.acc, c.requires.acc);
+      token = omega (arith, c.take_start.auto.acc, c.begin.auto.acc, c.requires.acc);
       combined = ap (λ (i : ℕ). set c.args.combined.now i 0) last;
-      acc = c.take-start.ensures.acc
+      acc = c.take_start.ensures.acc
           ∙ ap (λ (xs : List ℕ). taken_words n key (reduced n.degree n.modulus xs))
           (c.begin.ensures ∙ ap (λ (i : ℕ). beginning n.degree n.modulus (turns n (get_or c.args.combined.now i 0))) last)
           ∙ ap (λ (xs : List ℕ). taken_words n key xs) (sym (beginning_reduced n.degree n.modulus e some));
-      work = c.take-start.ensures.work;
-      scratch = c.take-start.ensures.scratch;
+      work = c.take_start.ensures.work;
+      scratch = c.take_start.ensures.scratch;
     }

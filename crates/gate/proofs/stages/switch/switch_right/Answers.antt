@@ -3,8 +3,8 @@ use Rattle.words.specs.declared.gadget.Gadget.{Gadget}
 use Rattle.gate.proofs.Sets.{divides}
 use Rattle.gate.proofs.stages.switch.switch_right.Goals as goal
 
-pub switch-words-requires : goal.switch-words-requires
-switch-words-requires c =
+pub switch_words-requires : goal.switch_words-requires
+switch_words-requires c =
     let set = c.args.set.now in
     let N = set.within.numbers.degree in
     let g = c.switcher.ensures in

@@ -4,17 +4,17 @@ use Rattle.algebra.specs.Ints.{floor_z}
 use Rattle.words.proofs.Steps.{product_right, left_fits, left_is, left_low, left_high}
 use Rattle.words.proofs.gadget.split.left_by.Goals as goal
 
-pub overflow-mul-result : goal.overflow-mul-result
-overflow-mul-result c =
-    let e : c.floor-by.result ≡ floor_z c.args.u (2 ^ c.args.width) =
-    c.floor-by.ensures ∙ ap (λ (z : ℤ). floor_z z (2 ^ c.args.width)) (to_z-of_z w64 c.args.u c.ranges.u) in
-    product_right c.args.u c.floor-by.result c.base-of.result c.args.width c.requires c.ranges.u e c.base-of.ensures
+pub overflow_mul-result : goal.overflow_mul-result
+overflow_mul-result c =
+    let e : c.floor_by.result ≡ floor_z c.args.u (2 ^ c.args.width) =
+    c.floor_by.ensures ∙ ap (λ (z : ℤ). floor_z z (2 ^ c.args.width)) (to_z-of_z w64 c.args.u c.ranges.u) in
+    product_right c.args.u c.floor_by.result c.base_of.result c.args.width c.requires c.ranges.u e c.base_of.ensures
 
-pub overflow-sub-result : goal.overflow-sub-result
-overflow-sub-result c =
-    let e : c.floor-by.result ≡ floor_z c.args.u (2 ^ c.args.width) =
-    c.floor-by.ensures ∙ ap (λ (z : ℤ). floor_z z (2 ^ c.args.width)) (to_z-of_z w64 c.args.u c.ranges.u) in
-    left_fits c.args.u c.floor-by.result c.base-of.result c.args.width c.requires c.ranges.u e c.base-of.ensures
+pub overflow_sub-result : goal.overflow_sub-result
+overflow_sub-result c =
+    let e : c.floor_by.result ≡ floor_z c.args.u (2 ^ c.args.width) =
+    c.floor_by.ensures ∙ ap (λ (z : ℤ). floor_z z (2 ^ c.args.width)) (to_z-of_z w64 c.args.u c.ranges.u) in
+    left_fits c.args.u c.floor_by.result c.base_of.result c.args.width c.requires c.ranges.u e c.base_of.ensures
 
 pub returns : goal.returns
 returns c =
