@@ -40,33 +40,16 @@ invariant_of-result c =
     let are =
     roots_are Q c.args.root c.args.log (c.args.degree / 2) c.args.powers.now
     c.root_table-roots.result h.half (omega (arith, c.requires.whole, h.twice)) c.requires.table
-    c.root_table-roots.ensures.same in (
-      (c.requires.size, h.half, c.requires.some, c.requires.few),
-      (
-        (h.low, h.high, h.twice),
-        (
-          (c.requires.odd, c.requires.more, c.requires.fits, c.requires.least, c.requires.low),
-          (
-            c.requires.wraps,
-            (
-              (i.ensures.low, one, c.quotient_of-sharp.ensures),
-              (
-                (
-                  b.some,
-                  bits_few Q c.bits_of-bits.result c.requires.fits b.low,
-                  b.low,
-                  square_fits Q c.bits_of-bits.result b.some b.high,
-                ),
-                (
-                  c.mu_of-mu.ensures,
-                  (
-                    (c.root_table-roots.ensures.long, c.quotient_table-quotients.ensures.long),
-                    (are, (c.quotient_table-quotients.ensures.same, tt)),
-                  ),
-                ),
-              ),
-            ),
-          ),
-        ),
-      ),
-    )
+    c.root_table-roots.ensures.same in
+    record {
+      size = (c.requires.size, h.half, c.requires.some, c.requires.few);
+      range = (h.low, h.high, h.twice);
+      limits = (c.requires.odd, c.requires.more, c.requires.fits, c.requires.least, c.requires.low);
+      wraps = c.requires.wraps;
+      scale = (i.ensures.low, one, c.quotient_of-sharp.ensures);
+      width = (b.some, bits_few Q c.bits_of-bits.result c.requires.fits b.low, b.low, square_fits Q c.bits_of-bits.result b.some b.high);
+      barrett = c.mu_of-mu.ensures;
+      long = (c.root_table-roots.ensures.long, c.quotient_table-quotients.ensures.long);
+      powers = are;
+      shoup = c.quotient_table-quotients.ensures.same;
+    }
