@@ -8,21 +8,21 @@ use Rattle.set.proofs.check.ruled.Goals as goal
 pub returns-in_err-gadget : goal.returns-in_err-gadget
 returns-in_err-gadget c =
     let w = c.args.within in
-    let p = err_from_is_err_and c.from-residual.result c.from-residual.ensures.1 in
+    let p = err_from_is_err_and c.from_residual.result c.from_residual.ensures.1 in
     rw (p.1, p.2)
     (record { answer = sym (cover_first w.numbers c.args.stated w.fit c.in_err-gadget.field-0.0 (sym c.in_err-gadget.ensures.answer)); made = tt })
 
 pub returns-in_err-switcher : goal.returns-in_err-switcher
 returns-in_err-switcher c =
     let w = c.args.within in
-    let p = err_from_is_err_and c.from-residual-in_err-switcher.result c.from-residual-in_err-switcher.ensures.1 in
+    let p = err_from_is_err_and c.from_residual-in_err-switcher.result c.from_residual-in_err-switcher.ensures.1 in
     rw (p.1, p.2)
     (record { answer = sym (switch_first w.numbers c.args.stated w.fit c.in_err-switcher.field-0.0 (sym c.in_ok-gadget.ensures.answer) (sym c.in_err-switcher.ensures.answer)); made = tt })
 
 pub returns-in_err-ring : goal.returns-in_err-ring
 returns-in_err-ring c =
     let w = c.args.within in
-    let p = err_from_is_err_and c.from-residual-in_err-ring.result c.from-residual-in_err-ring.ensures.1 in
+    let p = err_from_is_err_and c.from_residual-in_err-ring.result c.from_residual-in_err-ring.ensures.1 in
     rw (p.1, p.2)
     (record { answer = sym (root_first w.numbers c.args.stated w.fit c.in_err-ring.field-0.0 (sym c.in_ok-gadget.ensures.answer) (sym c.in_ok-switcher.ensures.answer) (sym c.in_err-ring.ensures.answer)); made = tt })
 
@@ -36,7 +36,10 @@ pub invariant_of-result : goal.invariant_of-result
 invariant_of-result c =
     let w = c.args.within in
     let l = closing_last w.numbers c.args.stated w.fit (sym c.in_ok-gadget.ensures.answer) (sym c.in_ok-switcher.ensures.answer) (sym c.in_ok-ring.ensures.answer) in
-    let r : rules_broken w.numbers c.args.stated ≡ None = l ∙ sym c.in_default.ensures in (
-      ap (λ (o : Option Fault). is_some o) r,
-      (c.in_ok-ring.ensures.made, (c.in_ok-gadget.ensures.made, (c.in_ok-switcher.ensures.made, tt))),
-    )
+    let r : rules_broken w.numbers c.args.stated ≡ None = l ∙ sym c.in_default.ensures in
+    record {
+      rules = ap (λ (o : Option Fault). is_some o) r;
+      same = c.in_ok-ring.ensures.made;
+      digits = c.in_ok-gadget.ensures.made;
+      places = c.in_ok-switcher.ensures.made;
+    }

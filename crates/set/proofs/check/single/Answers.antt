@@ -14,7 +14,7 @@ returns-in_err-within c =
     let n = c.args.numbers in
     let short : Short n =
     record { degree_short = omega arith; small_short = omega arith; dropped_short = omega arith; base_short = omega arith; switch_short = omega arith; radix_short = omega arith } in
-    let p = err_from_is_err_and c.from-residual.result c.from-residual.ensures.1 in
+    let p = err_from_is_err_and c.from_residual.result c.from_residual.ensures.1 in
     rw (p.1, p.2)
     (record {
       answer = sym (or_first (limits_broken n) (rules_broken n (single_noise n)) c.in_err-within.field-0.0 (sym c.in_err-within.ensures.answer));
