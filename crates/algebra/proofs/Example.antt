@@ -1,14 +1,13 @@
 -- One set with secrets and keys that fit, by computing.
-use Rattle.std.proofs.Common.{◌≡◌, ℕ, ◌*◌, ◌^◌, ◌<◌, ◌≤◌, ℤ, pos, ◌*ℤ◌, refl, inr, arith, lit<, lit≤}
+use Rattle.std.proofs.Common.{◌^◌, pos, ◌*ℤ◌, refl, lit<, lit≤}
 use Rattle.algebra.proofs.Cong.{same}
 use Rattle.algebra.proofs.Poly.{one-mul}
-use Rattle.algebra.proofs.Norms.{weight_one}
 use Rattle.algebra.proofs.Near.{near_cong}
 use Rattle.algebra.proofs.Digits.{covers_powers}
 use Rattle.algebra.proofs.Phases.{phase_last}
 use Rattle.algebra.specs.Polys.{one, scale, weight}
 use Rattle.algebra.specs.Keys.{gadget}
-use Rattle.algebra.specs.Example.{ExampleFits, example_secret, example_start, example_row}
+use Rattle.algebra.specs.Example.{ExampleFits, example_secret}
 
 -- keys without noise
 pub example_fits : ExampleFits

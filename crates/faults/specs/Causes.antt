@@ -1,7 +1,7 @@
 -- The table of causes: number, row, place and layer of each fault.
 use Rattle.std.specs.Prelude.{ℕ}
 use Rattle.faults.specs.declared.fault.Layer.{Layer}
-use Rattle.faults.specs.declared.fault.Layer.TheVariants.{Image, Set, Digits, Kernel, Sweep, Gate, File, Runner, Runs, Secrets}
+use Rattle.faults.specs.declared.fault.Layer.TheVariants.{Image, Set, File, Runner, Secrets}
 use Rattle.faults.specs.declared.fault.Place.{Place}
 use Rattle.faults.specs.declared.fault.Place.TheVariants.{At, Entry}
 use Rattle.faults.specs.declared.fault.Fault.{Fault}

@@ -1,5 +1,5 @@
 -- The one law of refusals: a call answers the least fault that is true of what it was handed, by row and then by place, and none where none is true.
-use Rattle.std.specs.Prelude.{◌≡◌, ℕ, ◌<◌, ◌≤◌, Bool, true, false, cond, ◌⊎◌, List, [], ◌∷◌, Some, None, Ok, Err, Option, Result}
+use Rattle.std.specs.Prelude.{◌≡◌, ℕ, ◌<◌, ◌≤◌, Bool, cond, ◌⊎◌, Some, None, Ok, Err, Option, Result}
 use Rattle.faults.specs.declared.fault.Place.{Place}
 use Rattle.faults.specs.declared.fault.Place.TheVariants.{At, Entry}
 use Rattle.faults.specs.declared.fault.Fault.{Fault}

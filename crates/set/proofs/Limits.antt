@@ -1,16 +1,16 @@
 -- Sixteen numbers within their limits: the first that is outside is the least fault, and the facts that hold where none is.
-use Rattle.std.proofs.Common.{◌≡◌, ℕ, ◌+◌, ◌-◌, ◌*◌, ◌/◌, ◌%◌, ◌^◌, ◌<◌, ◌≤◌, Bool, true, false, cond, ◌&&◌, eqb, ◌⊎◌, is_some, Some, None, Option, sym, refl, ap, ◌∙◌, subst, inl, inr, arith}
+use Rattle.std.proofs.Common.{◌≡◌, ℕ, ◌-◌, ◌*◌, ◌/◌, ◌%◌, ◌^◌, ◌<◌, Bool, true, false, eqb, is_some, Some, None, Option, sym, refl, ap, ◌∙◌, subst, inl, inr, arith}
 use Rattle.std.proofs.lemmas.Bool.{eqb-true, eq-eqb, and_parts, and_from, both_ways}
 use Rattle.faults.specs.declared.fault.Fault.{Fault}
 use Rattle.faults.specs.declared.fault.Fault.TheVariants.{Field}
 use Rattle.faults.specs.Least.{Least, NoLater, or_else, unless}
-use Rattle.faults.proofs.Least.{Rows, row_first, row_last}
+use Rattle.faults.proofs.Least.{row_first, row_last}
 use Rattle.words.specs.Powers.{power_within, within}
 use Rattle.words.specs.Moduli.{ring_modulus}
 use Rattle.words.proofs.Moduli.{within_holds, power_within_parts}
 use Rattle.words.proofs.Gadgets.{power_told, within_told, within_parts, ring_told, ring_parts}
 use Rattle.set.specs.declared.numbers.Numbers.{Numbers}
-use Rattle.set.specs.Limits.{From, PowerFrom, OddModulus, EvenFrom, even_within, Limits, WrongLimits, sizes_broken, digits_broken, weights_broken, switch_broken, limits_broken}
+use Rattle.set.specs.Limits.{EvenFrom, even_within, Limits, WrongLimits, sizes_broken, digits_broken, weights_broken, switch_broken, limits_broken}
 
 -- refusals in turn
 pub or_first : (a b : Option Fault) (f : Fault) → a ≡ Some f → or_else a b ≡ Some f

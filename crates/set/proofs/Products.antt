@@ -1,5 +1,5 @@
 -- How large the noises can be.
-use Rattle.std.proofs.Common.{◌≡◌, ℕ, ◌+◌, ◌*◌, ◌/◌, ◌^◌, ◌<◌, ◌≤◌, arith}
+use Rattle.std.proofs.Common.{ℕ, ◌+◌, ◌*◌, ◌/◌, ◌^◌, ◌≤◌, arith}
 use Rattle.std.proofs.lemmas.Nat.{mul-le}
 
 pub product_small : (l d b e : ℕ) → l ≤ 1024 → d ≤ 31 → b ≤ 65536 → e ≤ 1024 → l * d * b * e ≤ 31 * 2 ^ 36

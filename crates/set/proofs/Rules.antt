@@ -1,12 +1,12 @@
 -- The rules beyond the limits: what is refused first is the least fault, and a set that nothing refuses keeps them all.
-use Rattle.std.proofs.Common.{◌≡◌, ℕ, ◌+◌, ◌-◌, ◌*◌, ◌/◌, ◌%◌, ◌^◌, ◌<◌, ◌≤◌, Bool, true, false, cond, ◌&&◌, eqb, ltb, leb, ◌⊎◌, is_some, Some, None, Option, sym, refl, ap, ◌∙◌, subst, inl, inr, arith}
+use Rattle.std.proofs.Common.{◌≡◌, ℕ, ◌+◌, ◌-◌, ◌*◌, ◌%◌, ◌^◌, ◌<◌, ◌≤◌, Bool, true, false, eqb, ltb, leb, is_some, Some, None, Option, sym, refl, ap, ◌∙◌, inl, inr, arith}
 use Rattle.std.proofs.lemmas.Nat.{pow_below}
-use Rattle.std.proofs.lemmas.Bool.{eqb-true, eqb-false, leb-true, leb-false, le-leb, eq-eqb, and_parts, and_from, both_ways, cases_order}
+use Rattle.std.proofs.lemmas.Bool.{eqb-true, eqb-false, leb-true, leb-false, and_parts, and_from, cases_order}
 use Rattle.faults.specs.declared.fault.Fault.{Fault}
 use Rattle.faults.specs.declared.fault.Fault.TheVariants.{Field, Cover, Root, Closing}
-use Rattle.faults.specs.Least.{Least, NoLater, or_else, unless}
+use Rattle.faults.specs.Least.{Least, or_else, unless}
 use Rattle.faults.specs.Causes.{row_of}
-use Rattle.faults.proofs.Least.{Rows, row_first, row_last, least_or}
+use Rattle.faults.proofs.Least.{row_first, row_last, least_or}
 use Rattle.words.specs.Powers.{is_power, power_within, within}
 use Rattle.words.specs.Moduli.{ring_modulus, switch_modulus}
 use Rattle.words.specs.Gadgets.{covers, ring_gadget_broken, switch_gadget_broken}
@@ -17,8 +17,8 @@ use Rattle.rings.proofs.Refusals.{degree_of, modulus_of, root_of}
 use Rattle.set.specs.declared.numbers.Numbers.{Numbers}
 use Rattle.set.specs.Limits.{Limits, WrongLimits, limits_broken}
 use Rattle.set.specs.Noise.{swept_noise, switch_noise}
-use Rattle.set.specs.Rules.{Covers, SweptCloses, SwitchCloses, GateCloses, gate_noise, Rules, WrongRules, WrongSet, closing_broken, rules_broken, set_broken}
-use Rattle.set.proofs.Limits.{Tests, Short, tests_of, limits_of, limits_least, none_of, passes, peel, or_first, or_next}
+use Rattle.set.specs.Rules.{gate_noise, Rules, WrongRules, WrongSet, closing_broken, rules_broken, set_broken}
+use Rattle.set.proofs.Limits.{Tests, Short, tests_of, limits_of, limits_least, passes, peel, or_first, or_next}
 
 -- a row that passes is passed over
 skip : (b : Bool) (f : Fault) (r : Option Fault) → b ≡ true → or_else (unless b f) r ≡ r

@@ -1,13 +1,13 @@
 -- The law of the split: under cover every digit is small, and the digits stand for the word but for the dropped part.
-use Rattle.std.proofs.Common.{◌≡◌, ℕ, zero, suc, ◌+◌, ◌-◌, ◌*◌, ◌/◌, ◌%◌, ◌^◌, ◌<◌, ◌≤◌, ◌⊎◌, List, [], ◌∷◌, ℤ, pos, negsuc, ◌+ℤ◌, ◌-ℤ◌, ◌*ℤ◌, neg_ℤ, nat_abs, ◌≤ℤ◌, ◌<ℤ◌, sym, refl, ap, ◌∙◌, subst, inl, inr, mul_assoc, mul-le-mul_left, mul-one, arith}
+use Rattle.std.proofs.Common.{◌≡◌, ℕ, zero, suc, ◌*◌, ◌/◌, ◌^◌, ◌<◌, ◌≤◌, ◌⊎◌, ℤ, pos, negsuc, ◌+ℤ◌, ◌-ℤ◌, ◌*ℤ◌, neg_ℤ, nat_abs, ◌≤ℤ◌, ◌<ℤ◌, sym, refl, ap, ◌∙◌, inl, inr, mul_assoc, mul-one, arith}
 use native.Mathlib.Nat.{pow-succ', pow-zero}
 use Rattle.std.specs.List.{AllByRecursion as All}
 use Rattle.std.proofs.lemmas.Int.{ints}
 use Rattle.std.proofs.lemmas.Nat.{pow_pos}
 use Rattle.algebra.specs.Ints.{floor_z}
 use Rattle.algebra.specs.Digits.{digit_of, rest_of}
-use Rattle.words.specs.Digits.{centred_of, digits_of, value_of, scaled_of, split_of}
-use Rattle.words.specs.Gadgets.{Within, SplitRight, Centred}
+use Rattle.words.specs.Digits.{centred_of, digits_of, value_of, scaled_of}
+use Rattle.words.specs.Gadgets.{Within, SplitRight}
 use Rattle.words.proofs.Floors.{floor_is, cancel_lt}
 use Rattle.words.proofs.Steps.{base_even}
 use Rattle.words.proofs.Centred.{centred_right}

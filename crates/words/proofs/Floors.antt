@@ -1,9 +1,8 @@
 -- Division rounded down, over the integers.
-use Rattle.std.proofs.Common.{◌≡◌, ℕ, zero, suc, ◌+◌, ◌-◌, ◌*◌, ◌/◌, ◌%◌, ◌^◌, ◌<◌, ◌≤◌, ℤ, pos, negsuc, ◌+ℤ◌, ◌-ℤ◌, ◌*ℤ◌, neg_ℤ, nat_abs, ◌≤ℤ◌, ◌<ℤ◌, sym, refl, ap, ◌∙◌, subst, suc-mul, mul-le-mul_left, mul-suc, arith, w64, SFits, to_z, of_z}
+use Rattle.std.proofs.Common.{◌≡◌, ℕ, ◌+◌, ◌-◌, ◌*◌, ◌/◌, ◌^◌, ◌<◌, ◌≤◌, ℤ, pos, negsuc, ◌+ℤ◌, ◌*ℤ◌, ◌≤ℤ◌, ◌<ℤ◌, sym, ap, ◌∙◌, mul-le-mul_left, arith, w64, SFits}
 use native.Mathlib.Decide.{dec_lt}
 use borrow.Author.Differences.{up, down}
 use lib.IntN.{suc_ℤ, *ℤ_comm, +ℤ_one, suc_ℤ-*ℤ}
-use lib.Signed.{mag}
 use Rattle.std.proofs.lemmas.Int.{ints}
 use Rattle.std.proofs.lemmas.Nat.{div_below, pow-add, pow_pos, div-add-mod'}
 use Rattle.algebra.specs.Ints.{floor_z}

@@ -1,16 +1,14 @@
 -- What the numbers of a gadget are refused for is the least fault that is true of them; and the facts of one that is made.
-use Rattle.std.proofs.Common.{◌≡◌, ℕ, zero, suc, ◌+◌, ◌-◌, ◌*◌, ◌/◌, ◌%◌, ◌^◌, ◌<◌, ◌≤◌, Bool, true, false, cond, ◌&&◌, eqb, leb, ◌⊎◌, sym, refl, ap, ◌∙◌, subst, inl, inr, add_comm, mul-zero, mul-suc, arith}
+use Rattle.std.proofs.Common.{◌≡◌, ℕ, zero, suc, ◌+◌, ◌-◌, ◌*◌, ◌%◌, ◌^◌, ◌<◌, ◌≤◌, Bool, true, false, ◌&&◌, eqb, leb, sym, refl, ap, ◌∙◌, inl, inr, mul-zero, mul-suc, arith}
 use native.Mathlib.Nat.{pow-zero, pow-succ'}
-use Rattle.std.proofs.lemmas.Nat.{pow-add, pow_below, pow_pos, one_shl}
-use Rattle.std.proofs.lemmas.Bool.{eqb-true, eqb-false, eq-eqb, leb-true, leb-false, le-leb, lt-leb, and_parts, and_from, and_cases, and_left, and_right, both_ways, cases_order}
-use Rattle.faults.specs.declared.fault.Fault.{Fault}
+use Rattle.std.proofs.lemmas.Nat.{pow-add, pow_below, one_shl}
+use Rattle.std.proofs.lemmas.Bool.{eqb-true, eq-eqb, leb-true, le-leb, lt-leb, and_parts, and_from, and_right, both_ways, cases_order}
 use Rattle.faults.specs.declared.fault.Fault.TheVariants.{Field, Cover}
-use Rattle.faults.specs.Least.{Least, NoLater, unless, or_else}
+use Rattle.faults.specs.Least.{Least}
 use Rattle.faults.proofs.Least.{row_first, row_last}
 use Rattle.words.specs.Powers.{Power, log2, is_power, power_within, within}
 use Rattle.words.specs.Moduli.{ring_modulus, switch_modulus}
 use Rattle.words.specs.Gadgets.{covers, ring_gadget_broken, switch_gadget_broken, WrongRingGadget, WrongSwitchGadget}
-use Rattle.words.proofs.Powers.{passes_power}
 use Rattle.words.proofs.Moduli.{within_holds, within_low, within_high, power_within_lem, power_within_parts}
 
 -- a power of a power of two

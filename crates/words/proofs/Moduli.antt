@@ -1,7 +1,6 @@
 -- What a modulus alone is refused for is the least fault that is true of it.
-use Rattle.std.proofs.Common.{◌≡◌, ℕ, ◌-◌, ◌%◌, ◌^◌, ◌<◌, ◌≤◌, Bool, true, false, cond, ◌&&◌, eqb, leb, ◌⊎◌, sym, refl, subst, inl, inr, arith}
-use Rattle.std.proofs.lemmas.Bool.{eqb-true, eqb-false, leb-true, leb-false, le-leb, lt-leb, and_parts, and_from, and_cases, both_ways}
-use Rattle.faults.specs.declared.fault.Fault.{Fault}
+use Rattle.std.proofs.Common.{◌≡◌, ℕ, ◌-◌, ◌%◌, ◌^◌, ◌<◌, ◌≤◌, Bool, true, false, cond, eqb, leb, ◌⊎◌, refl, inl, inr, arith}
+use Rattle.std.proofs.lemmas.Bool.{eqb-true, eqb-false, leb-true, leb-false, le-leb, and_parts, and_from, and_cases, both_ways}
 use Rattle.faults.specs.declared.fault.Fault.TheVariants.{Field}
 use Rattle.faults.specs.Least.{Least, unless}
 use Rattle.faults.proofs.Least.{least_unless, least_same}

@@ -1,6 +1,5 @@
 -- Centred representatives and gadget decomposition, over the integers.
-use Rattle.std.specs.Prelude.{ℕ, zero, suc, ◌*◌, ◌/◌, ◌%◌, List, [], ◌∷◌, ℤ, pos, ◌+ℤ◌, ◌*ℤ◌}
-use Rattle.algebra.specs.Ints.{floor_z}
+use Rattle.std.specs.Prelude.{ℕ, zero, suc, ◌%◌, List, [], ◌∷◌, ℤ, pos, ◌+ℤ◌, ◌*ℤ◌}
 use Rattle.algebra.specs.Digits.{centred, lowered, rest_of, digit_of}
 
 -- the representative of a word of modulus R above -R/2 and at most R/2

@@ -1,14 +1,13 @@
 -- The numbers of a gadget: when they are refused, and what its digits promise.
-use Rattle.std.specs.Prelude.{◌≡◌, ℕ, ◌+◌, ◌-◌, ◌*◌, ◌/◌, ◌%◌, ◌^◌, ◌<◌, ◌≤◌, Bool, cond, ◌&&◌, ◌⊎◌, List, length, ℤ, pos, ◌+ℤ◌, ◌-ℤ◌, ◌*ℤ◌, neg_ℤ, ◌≤ℤ◌, ◌<ℤ◌, Option, Result, ◌==◌, ◌≢◌, nat_le}
+use Rattle.std.specs.Prelude.{◌≡◌, ℕ, ◌*◌, ◌/◌, ◌%◌, ◌^◌, ◌<◌, ◌≤◌, Bool, ◌&&◌, ◌⊎◌, ℤ, pos, ◌+ℤ◌, ◌-ℤ◌, ◌*ℤ◌, neg_ℤ, ◌≤ℤ◌, ◌<ℤ◌, Option, ◌==◌, ◌≢◌, nat_le}
 use Rattle.std.specs.List.{AllByRecursion as All}
 use Rattle.faults.specs.declared.fault.Fault.{Fault}
 use Rattle.faults.specs.declared.fault.Fault.TheVariants.{Field, Cover, Length}
 use Rattle.faults.specs.declared.fault.Layer.TheVariants.{Digits}
-use Rattle.faults.specs.Least.{unless, or_else, told}
+use Rattle.faults.specs.Least.{unless, or_else}
 use Rattle.words.specs.Powers.{Power, power_within, within}
 use Rattle.words.specs.Moduli.{ring_modulus, switch_modulus}
-use Rattle.algebra.specs.Digits.{digit_of, rest_of}
-use Rattle.words.specs.Digits.{centred_of, digits_of, value_of, split_of}
+use Rattle.words.specs.Digits.{centred_of, value_of, split_of}
 
 -- the digits reach: R ≤ P × B^d ≤ 2^40
 abbrev pub covers : ℕ → ℕ → ℕ → ℕ → Bool

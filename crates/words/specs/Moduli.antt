@@ -2,7 +2,7 @@
 use Rattle.std.specs.Prelude.{◌≡◌, ℕ, ◌-◌, ◌%◌, ◌^◌, ◌<◌, ◌≤◌, Bool, cond, ◌&&◌, ◌⊎◌, Option, ◌==◌}
 use Rattle.faults.specs.declared.fault.Fault.{Fault}
 use Rattle.faults.specs.declared.fault.Fault.TheVariants.{Field}
-use Rattle.faults.specs.Least.{unless, or_else}
+use Rattle.faults.specs.Least.{unless}
 use Rattle.words.specs.Powers.{Power, power_within, within}
 
 -- Q: odd, from 17 to 2^31 - 1

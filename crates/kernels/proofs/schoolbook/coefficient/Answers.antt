@@ -1,4 +1,4 @@
-use Rattle.std.proofs.Common.{◌≡◌, ℕ, List, length, get_or, ℤ, pos, ◌+ℤ◌, ◌*ℤ◌, sym, refl, subst, mod-lt, arith}
+use Rattle.std.proofs.Common.{◌≡◌, ℕ, List, length, get_or, pos, ◌+ℤ◌, ◌*ℤ◌, sym, refl, subst, mod-lt, arith}
 use Rattle.algebra.specs.Ints.{Cong, sum_z}
 use Rattle.algebra.specs.Polys.{wrapped}
 use Rattle.algebra.specs.Words.{coeffs}

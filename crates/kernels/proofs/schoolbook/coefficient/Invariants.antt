@@ -1,4 +1,4 @@
-use Rattle.std.proofs.Common.{◌<◌, length, ℤ, pos, ◌+ℤ◌, ◌*ℤ◌}
+use Rattle.std.proofs.Common.{◌<◌, length, pos, ◌+ℤ◌, ◌*ℤ◌}
 use Rattle.algebra.specs.Ints.{Cong, sum_z}
 use Rattle.algebra.specs.Polys.{wrapped}
 use Rattle.algebra.specs.Words.{coeffs}

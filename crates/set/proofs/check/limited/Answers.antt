@@ -1,4 +1,4 @@
-use Rattle.std.proofs.Common.{◌≡◌, Bool, false, is_some, Option, sym, ap, arith}
+use Rattle.std.proofs.Common.{◌≡◌, false, is_some, Option, sym, ap, arith}
 use Rattle.faults.specs.declared.fault.Fault.{Fault}
 use Rattle.set.specs.Limits.{limits_broken}
 use Rattle.set.proofs.Limits.{limits_of}

@@ -1,4 +1,4 @@
-use Rattle.std.proofs.Common.{◌≡◌, sym, ◌∙◌}
+use Rattle.std.proofs.Common.{sym, ◌∙◌}
 use Rattle.set.proofs.Limits.{sizes_first, digits_next, weights_next, switch_last}
 use Rattle.set.proofs.check.limits.Goals as goal
 

@@ -1,7 +1,7 @@
-use Rattle.std.proofs.Common.{◌≡◌, false, is_some, None, Option, sym, ap, ◌∙◌, rules}
+use Rattle.std.proofs.Common.{◌≡◌, is_some, None, Option, sym, ap, ◌∙◌}
 use Rattle.std.proofs.lemmas.Result.{err_from_is_err_and}
 use Rattle.faults.specs.declared.fault.Fault.{Fault}
-use Rattle.set.specs.Rules.{rules_broken, closing_broken}
+use Rattle.set.specs.Rules.{rules_broken}
 use Rattle.set.proofs.Rules.{cover_first, switch_first, root_first, closing_last}
 use Rattle.set.proofs.check.ruled.Goals as goal
 

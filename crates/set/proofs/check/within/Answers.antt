@@ -1,6 +1,5 @@
 use Rattle.std.proofs.Common.{is_some, Option, ap, arith}
 use Rattle.faults.specs.declared.fault.Fault.{Fault}
-use Rattle.set.specs.declared.numbers.Numbers.{Numbers}
 use Rattle.set.proofs.Limits.{Short, limits_least, limits_of}
 use Rattle.set.proofs.Rules.{keeps_limits}
 use Rattle.set.proofs.check.within.Goals as goal

@@ -1,4 +1,4 @@
-use Rattle.std.proofs.Common.{◌≡◌, ℕ, ◌+◌, ◌*◌, ◌/◌, ◌^◌, ◌≤◌, ap, arith}
+use Rattle.std.proofs.Common.{ℕ, ◌+◌, ◌*◌, ◌/◌, ◌^◌, ◌≤◌, ap, arith}
 use Rattle.set.specs.declared.within.Within.{Within}
 use Rattle.set.proofs.Products.{drops_small, single_small}
 use Rattle.set.proofs.noises.single.Goals as goal

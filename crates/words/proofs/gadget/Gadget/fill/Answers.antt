@@ -1,7 +1,6 @@
-use Rattle.std.proofs.Common.{◌≡◌, ℕ, suc, ◌+◌, ◌-◌, ◌^◌, ◌<◌, ◌≤◌, length, ℤ, pos, sym, ap, ◌∙◌, arith, w64, SFits, to_z, of_z, rules}
-use Rattle.std.proofs.lemmas.Int.{ints, to_z-of_z}
+use Rattle.std.proofs.Common.{◌≡◌, suc, ◌-◌, ◌^◌, length, ℤ, ap, ◌∙◌, arith, w64, SFits, to_z, of_z, rules}
+use Rattle.std.proofs.lemmas.Int.{to_z-of_z}
 use Rattle.algebra.specs.Digits.{digit_of, rest_of}
-use Rattle.words.specs.Digits.{digits_of}
 use Rattle.words.proofs.Filling.{digits_more, digits_end}
 use Rattle.words.proofs.gadget.Gadget.fill.Goals as goal
 

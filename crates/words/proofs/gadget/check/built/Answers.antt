@@ -1,4 +1,4 @@
-use Rattle.std.proofs.Common.{◌*◌, ◌^◌, ◌≤◌, leb}
+use Rattle.std.proofs.Common.{◌*◌, ◌^◌, leb}
 use Rattle.std.proofs.lemmas.Bool.{and_parts, leb-true}
 use Rattle.words.proofs.Moduli.{within_low, within_high}
 use Rattle.words.proofs.gadget.check.built.Goals as goal
@@ -12,5 +12,5 @@ invariant_of-result-2 c =
       base = c.requires.base;
       count = (within_low 1 31 c.args.digits c.requires.count, within_high 1 31 c.args.digits c.requires.count);
       reach = leb-true c.args.modulus r p.0;
-      room = leb-true r (2 ^ 40) p.1
+      room = leb-true r (2 ^ 40) p.1;
     }

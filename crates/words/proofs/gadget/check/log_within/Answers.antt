@@ -1,4 +1,4 @@
-use Rattle.std.proofs.Common.{◌≡◌, ℕ, ◌^◌, ◌≤◌, ap, ◌∙◌, arith}
+use Rattle.std.proofs.Common.{◌≡◌, ℕ, ◌^◌, ap, ◌∙◌, arith}
 use Rattle.words.proofs.Gadgets.{log_power, exponent_few, exponent_some}
 use Rattle.words.proofs.Moduli.{power_within_parts}
 use Rattle.words.proofs.gadget.check.log_within.Goals as goal

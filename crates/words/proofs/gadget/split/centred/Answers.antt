@@ -1,5 +1,5 @@
 use Rattle.std.proofs.Common.{◌≡◌, ◌^◌, ◌<◌, ℤ, sym, ap, ◌∙◌, subst, arith, w64, to_z, of_z}
-use Rattle.std.proofs.lemmas.Int.{ints, to_z-of_z}
+use Rattle.std.proofs.lemmas.Int.{to_z-of_z}
 use Rattle.words.specs.Digits.{centred_of}
 use Rattle.words.specs.Gadgets.{Centred}
 use Rattle.words.proofs.Centred.{centred_right, centred_fits}

@@ -1,5 +1,4 @@
 use Rattle.std.proofs.Common.{arith}
-use lib.Count.{count_leading_zeros}
 use Rattle.words.specs.Powers.{log2}
 use Rattle.words.proofs.modulus.check.log_of.Goals as goal
 
