@@ -1,6 +1,6 @@
 -- The lists of each call, and their right lengths.
 use Rattle.std.specs.Prelude.{◌≡◌, ℕ, ◌+◌, ◌*◌, ◌<◌, cond, List, [], ◌∷◌, length, replicate, is_ok, Some, None, Ok, Err, Option, Result, ◌==◌, ◌≢◌, slice_index_or}
-use Rattle.std.specs.List.{AllByRecursion as All}
+use Rattle.std.specs.List.{AllByRecursion}
 use Rattle.faults.specs.declared.fault.Fault.{Fault}
 use Rattle.faults.specs.declared.fault.Fault.TheVariants.{Length}
 use Rattle.faults.specs.declared.fault.Layer.TheVariants.{Gate}
@@ -15,7 +15,7 @@ first_wrong i (l ∷ ls) = or_else (unless (l.0 == l.1) (Length i Gate)) (first_
 
 -- every list has its right length
 abbrev pub AllRight : List (ℕ × ℕ) → Type 0
-AllRight ls = All (λ l. l.0 ≡ l.1) ls
+AllRight ls = AllByRecursion (λ l. l.0 ≡ l.1) ls
 
 -- what a stage answers: what it made, or why it refuses, and what it was handed
 abbrev pub staged : {X Y : Type 0} → Option Fault → X → Y → Result X (Declined Y)

@@ -1,7 +1,7 @@
 -- The law of the split: under cover every digit is small, and the digits stand for the word but for the dropped part.
 use Rattle.std.proofs.Common.{◌≡◌, ℕ, zero, suc, ◌*◌, ◌/◌, ◌^◌, ◌<◌, ◌≤◌, ◌⊎◌, ℤ, pos, negsuc, ◌+ℤ◌, ◌-ℤ◌, ◌*ℤ◌, neg_ℤ, nat_abs, ◌≤ℤ◌, ◌<ℤ◌, sym, refl, ap, ◌∙◌, inl, inr, mul_assoc, mul-one, arith}
 use native.Mathlib.Nat.{pow-succ', pow-zero}
-use Rattle.std.specs.List.{AllByRecursion as All}
+use Rattle.std.specs.List.{AllByRecursion}
 use Rattle.std.proofs.lemmas.Int.{ints}
 use Rattle.std.proofs.lemmas.Nat.{pow_pos}
 use Rattle.algebra.specs.Ints.{floor_z}
@@ -38,7 +38,7 @@ digit_within B u h e =
     (omega (arith, ints), omega (arith, ints))
 
 -- every digit, where the number is small enough
-pub digits_within : (B k : ℕ) (u : ℤ) → 0 < B / 2 → B ≡ 2 * (B / 2) → nat_abs u ≤ B / 2 * B ^ k → All (Within (B / 2)) (digits_of B (suc k) u)
+pub digits_within : (B k : ℕ) (u : ℤ) → 0 < B / 2 → B ≡ 2 * (B / 2) → nat_abs u ≤ B / 2 * B ^ k → AllByRecursion (Within (B / 2)) (digits_of B (suc k) u)
 unfolding digits_of
 digits_within B zero u h e s = (within_of u (B / 2) (rw (pow-zero B, mul-one (B / 2)) at s), tt)
 digits_within B (suc k) u h e s =

@@ -1,6 +1,6 @@
 -- The numbers of a gadget: when they are refused, and what its digits promise.
 use Rattle.std.specs.Prelude.{◌≡◌, ℕ, ◌*◌, ◌/◌, ◌%◌, ◌^◌, ◌<◌, ◌≤◌, Bool, ◌&&◌, ◌⊎◌, ℤ, pos, ◌+ℤ◌, ◌-ℤ◌, ◌*ℤ◌, neg_ℤ, ◌≤ℤ◌, ◌<ℤ◌, Option, ◌==◌, ◌≢◌, nat_le}
-use Rattle.std.specs.List.{AllByRecursion as All}
+use Rattle.std.specs.List.{AllByRecursion}
 use Rattle.faults.specs.declared.fault.Fault.{Fault}
 use Rattle.faults.specs.declared.fault.Fault.TheVariants.{Field, Cover, Length}
 use Rattle.faults.specs.declared.fault.Layer.TheVariants.{Digits}
@@ -58,7 +58,7 @@ Within b z = (neg_ℤ (pos b) ≤ℤ z) × (z ≤ℤ pos b)
 
 -- the digits of a word x: each from -B/2 to B/2, and P times their value is x, centred, but for at most G = P/2
 pub record SplitRight (R P B d x : ℕ) : Type 0 where
-  pub small : All (Within (B / 2)) (split_of R P B d x)
+  pub small : AllByRecursion (Within (B / 2)) (split_of R P B d x)
   pub near : Within (P / 2) (pos P *ℤ value_of B (split_of R P B d x) -ℤ centred_of R x)
 
 -- the representative of a word: above -R/2, at most R/2, and the word but for a multiple of R
