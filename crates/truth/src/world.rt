@@ -16,7 +16,7 @@ use sweeps::sweep::Sweep;
 use transform::transform::Transform;
 
 // What ends the program early.
-#[derive(Drop)]
+#[derive(Debug, Drop)]
 pub enum Failure {
     Refused(Fault),
     Memory(AllocError),
