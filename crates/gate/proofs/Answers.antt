@@ -1,5 +1,5 @@
 -- Answers of calls whose lists have the right lengths.
-use Rattle.std.proofs.Common.{◌≡◌, ℕ, Bool, cond, eqb, Some, None, Option, refl, ap, ◌∙◌, eq-eqb}
+use Rattle.std.proofs.Common.{◌≡◌, ℕ, Bool, eqb, None, Option, ap, eq-eqb}
 use Rattle.faults.specs.declared.fault.Fault.{Fault}
 use Rattle.faults.specs.Least.{or_else, unless}
 

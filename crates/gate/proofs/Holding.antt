@@ -1,7 +1,6 @@
 -- What a gate answers under the secrets, from the law of gates and the meaning of the sweep.
-use Rattle.std.proofs.Common.{◌≡◌, ℕ, zero, suc, ◌+◌, ◌-◌, ◌*◌, ◌/◌, ◌%◌, ◌^◌, ◌<◌, ◌≤◌, Bool, true, false, ◌⊎◌, List, [], ◌∷◌, length, get_or, take, drop, ℤ, pos, negsuc, ◌+ℤ◌, ◌*ℤ◌, nat_abs, sym, refl, ap, ◌∙◌, subst, ap₂, inl, inr, add-zero, arith, length-take}
+use Rattle.std.proofs.Common.{◌≡◌, ℕ, zero, suc, ◌+◌, ◌*◌, ◌/◌, ◌^◌, ◌<◌, ◌≤◌, Bool, true, false, ◌⊎◌, List, [], ◌∷◌, length, get_or, take, ℤ, pos, ◌+ℤ◌, ◌*ℤ◌, nat_abs, sym, refl, ap, ◌∙◌, subst, ap₂, inl, inr, arith, length-take}
 use Rattle.std.proofs.lemmas.List.{get_or-take}
-use Rattle.algebra.specs.Ints.{sum_z}
 use Rattle.algebra.specs.Polys.{Poly, Alike, power, weight}
 use Rattle.algebra.specs.Words.{coeffs, words}
 use Rattle.algebra.specs.Near.{Near}
@@ -18,13 +17,13 @@ use Rattle.set.specs.declared.numbers.Numbers.{Numbers}
 use Rattle.set.specs.declared.within.Within.{Within}
 use Rattle.set.specs.declared.checked.Set.{Set}
 use Rattle.sweeps.specs.External.{taken_by, taken_words}
-use Rattle.sweeps.specs.Fit.{entries, key_at, RingSecret, SmallSecret, FitsSweep}
+use Rattle.sweeps.specs.Fit.{entries, key_at, RingSecret, SmallSecret}
 use Rattle.sweeps.specs.Forms.{ArePolys}
 use Rattle.sweeps.specs.Meaning.{turns, turn_by, turn_sum, Means}
 use Rattle.gate.specs.declared.letter.Letter.{Letter}
 use Rattle.gate.specs.Letters.{offset_of, times_of, num_of, bit_of}
 use Rattle.gate.specs.Lengths.{words_of}
-use Rattle.gate.specs.Stages.{row_at, switch_words, combined_of, started_of, swept_of, extracted_of, narrowed_of, switched_of, finished_of}
+use Rattle.gate.specs.Stages.{row_at, switch_words, combined_of, extracted_of, narrowed_of, finished_of}
 use Rattle.gate.specs.Bits.{HoldsBit, room_of}
 use Rattle.gate.specs.Gates.{rotated_of, settled_of, gate_of, KeysFit, GateHolds}
 use Rattle.gate.proofs.Bits.{bits_right}

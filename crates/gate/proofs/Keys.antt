@@ -1,8 +1,8 @@
 -- Rows of forms read as polynomials.
-use Rattle.std.proofs.Common.{◌≡◌, ℕ, ◌+◌, ◌*◌, ◌<◌, ◌≤◌, List, [], length, get_or, sym, refl, ap, ◌∙◌, subst, ap₂, arith}
+use Rattle.std.proofs.Common.{◌≡◌, ℕ, ◌<◌, List, [], length, get_or, sym, subst, arith}
 use Rattle.std.proofs.lemmas.List.FromFn.{length-map-range_with_len, get_or-map-range_with_len}
 use Rattle.rings.specs.declared.ring.Ring.{Ring}
-use Rattle.kernels.specs.Polynomials.{IsPoly, InRing}
+use Rattle.kernels.specs.Polynomials.{IsPoly}
 use Rattle.kernels.specs.Reading.{OneForm}
 use Rattle.set.specs.declared.checked.Set.{Set}
 use Rattle.sweeps.specs.Forms.{row_of, read_rows, ArePolys}

@@ -1,5 +1,5 @@
 -- The bits that words hold: one at most, told, opened and sealed.
-use Rattle.std.proofs.Common.{◌≡◌, ℕ, zero, suc, ◌+◌, ◌-◌, ◌*◌, ◌/◌, ◌%◌, ◌<◌, ◌≤◌, Bool, true, false, cond, not, ◌&&◌, eqb, ltb, leb, ◌⊎◌, List, [], ◌∷◌, length, get_or, ℤ, pos, negsuc, ◌+ℤ◌, ◌-ℤ◌, ◌*ℤ◌, nat_abs, Some, None, Ok, Err, Option, Result, sym, refl, ap, ◌∙◌, subst, ap₂, inl, inr, arith, le-ltb, lt-ltb, eq-eqb, ne_eqb}
+use Rattle.std.proofs.Common.{◌≡◌, ℕ, zero, suc, ◌+◌, ◌-◌, ◌*◌, ◌/◌, ◌%◌, ◌<◌, ◌≤◌, Bool, true, false, cond, ◌&&◌, eqb, ltb, leb, ◌⊎◌, List, [], ◌∷◌, length, get_or, ℤ, pos, negsuc, ◌+ℤ◌, ◌-ℤ◌, ◌*ℤ◌, nat_abs, None, Ok, Err, Option, sym, refl, ap, ◌∙◌, subst, ap₂, inl, inr, arith, le-ltb, lt-ltb, eq-eqb, ne_eqb}
 use borrow.Author.Differences.{ints}
 use Rattle.std.proofs.lemmas.Bool.{le-leb, lt-leb, leb-true, and_parts, and_from}
 use Rattle.faults.specs.declared.fault.Fault.{Fault}
@@ -8,11 +8,10 @@ use Rattle.faults.specs.declared.fault.Layer.TheVariants.{Secrets}
 use Rattle.faults.specs.Least.{or_else, unless}
 use Rattle.algebra.specs.Ints.{Cong, sum_z}
 use Rattle.algebra.specs.Polys.{Poly, nonzeros}
-use Rattle.algebra.specs.Near.{Near}
 use Rattle.algebra.specs.Words.{coeffs, word_of, words}
-use Rattle.algebra.specs.Gates.{phase, Holds, exponent}
+use Rattle.algebra.specs.Gates.{phase, exponent}
 use Rattle.algebra.proofs.Bridge.{word_cong, word_below}
-use Rattle.algebra.proofs.Cong.{same, cong_refl, cong_sym, cong_trans, cong_add}
+use Rattle.algebra.proofs.Cong.{same, cong_sym, cong_trans}
 use Rattle.algebra.proofs.Near.{near_more}
 use Rattle.algebra.proofs.Sums.{sum_same}
 use Rattle.algebra.proofs.Words.{words_alike, words_long, words_below}

@@ -1,8 +1,8 @@
 -- The opposite bit.
-use Rattle.std.proofs.Common.{◌≡◌, ℕ, suc, ◌+◌, ◌-◌, ◌*◌, ◌/◌, ◌<◌, ◌≤◌, Bool, true, false, cond, not, eqb, ◌≢◌, ◌⊎◌, List, ◌++◌, length, get_or, take, drop, set, ℤ, pos, ◌-ℤ◌, sym, refl, ap, ◌∙◌, subst, ap₂, inl, inr, mul-le-mul_right, arith, length-drop, length-take}
+use Rattle.std.proofs.Common.{◌≡◌, ℕ, suc, ◌+◌, ◌-◌, ◌*◌, ◌/◌, ◌<◌, ◌≤◌, Bool, true, false, cond, not, eqb, ◌⊎◌, List, length, get_or, take, drop, set, ℤ, pos, ◌-ℤ◌, sym, refl, ap, ◌∙◌, subst, ap₂, inl, inr, mul-le-mul_right, arith}
 use lib.Seq.{paste}
-use Rattle.std.proofs.lemmas.List.Edits.{paste_more, paste_all, paste_none}
-use Rattle.std.proofs.lemmas.List.{get_or-take, get_or-drop, get_or-set_other}
+use Rattle.std.proofs.lemmas.List.Edits.{paste_more, paste_all}
+use Rattle.std.proofs.lemmas.List.{get_or-take, get_or-drop}
 use Rattle.std.proofs.lemmas.Bool.{cases_order}
 use Rattle.algebra.specs.Words.{coeffs, word_of}
 use Rattle.algebra.specs.Gates.{invert, Holds}
@@ -16,7 +16,6 @@ use Rattle.gate.specs.Lengths.{words_of}
 use Rattle.gate.specs.Stages.{inverted_of}
 use Rattle.gate.specs.Gates.{Apart, InvertHolds, register_at, with_register}
 use Rattle.gate.proofs.Places.{head_at}
-use Rattle.gate.proofs.Reach.{register_new}
 
 pub inverts : (w : Within) (xs : List ℕ) → InvertHolds w xs (inverted_of w.numbers xs)
 inverts w xs = record {

@@ -1,12 +1,12 @@
 -- The phase after each stage.
-use Rattle.std.proofs.Common.{◌≡◌, ℕ, suc, ◌+◌, ◌*◌, ◌/◌, ◌<◌, ◌≤◌, List, length, get_or, ℤ, pos, ◌+ℤ◌, ◌*ℤ◌, sym, refl, ap, ◌∙◌, subst, ap₂, arith}
+use Rattle.std.proofs.Common.{ℕ, suc, ◌+◌, ◌*◌, ◌/◌, ◌<◌, ◌≤◌, List, get_or, ℤ, pos, ◌+ℤ◌, sym, subst, arith}
 use Rattle.algebra.specs.Ints.{Cong}
-use Rattle.algebra.specs.Polys.{Poly, Alike, power, mul, weight}
+use Rattle.algebra.specs.Polys.{Poly, power, mul, weight}
 use Rattle.algebra.specs.Near.{Near, Nearby}
 use Rattle.algebra.specs.Words.{coeffs, words}
 use Rattle.algebra.specs.Keys.{Splits, split}
-use Rattle.algebra.specs.Gates.{test, beginning, phase, extract, extracted, Rounds, switch}
-use Rattle.algebra.proofs.Cong.{same, cong_refl, cong_sym, cong_trans}
+use Rattle.algebra.specs.Gates.{test, beginning, phase, extract, extracted}
+use Rattle.algebra.proofs.Cong.{same, cong_refl, cong_trans}
 use Rattle.algebra.proofs.Keys.{split_words, start_near}
 use Rattle.algebra.proofs.Sweeps.{splits_alike}
 use Rattle.algebra.proofs.Norms.{mul_alike, weight_counts}
@@ -22,7 +22,7 @@ use Rattle.set.specs.declared.within.Within.{Within}
 use Rattle.set.specs.declared.checked.Set.{Set}
 use Rattle.set.specs.Noise.{drop_of, switch_noise}
 use Rattle.sweeps.specs.External.{taken_by, taken_words}
-use Rattle.sweeps.specs.Fit.{entries, key_at, RingSecret, SmallSecret, FitsStart}
+use Rattle.sweeps.specs.Fit.{entries, key_at, SmallSecret, FitsStart}
 use Rattle.sweeps.specs.Meaning.{turns}
 use Rattle.gate.specs.Letters.{offset_of, times_of}
 use Rattle.gate.specs.Stages.{row_at, switch_words, started_of, extracted_of, switched_of}

@@ -1,10 +1,9 @@
 -- Words made place by place.
-use Rattle.std.proofs.Common.{◌≡◌, ℕ, zero, suc, ◌+◌, ◌-◌, ◌*◌, ◌/◌, ◌%◌, ◌<◌, ◌≤◌, Bool, true, false, cond, eqb, ◌≢◌, List, length, get_or, set, ℤ, pos, negsuc, ◌+ℤ◌, ◌-ℤ◌, ◌*ℤ◌, neg_ℤ, sym, refl, ap, ◌∙◌, subst, mod-lt, mod-eq_of_lt, mul-one, mul-add, arith, below_more, eq-eqb, ne_eqb}
+use Rattle.std.proofs.Common.{◌≡◌, ℕ, suc, ◌+◌, ◌-◌, ◌*◌, ◌/◌, ◌%◌, ◌<◌, Bool, true, false, cond, eqb, ◌≢◌, List, length, get_or, set, ℤ, pos, ◌-ℤ◌, neg_ℤ, sym, refl, ap, ◌∙◌, subst, mod-lt, mod-eq_of_lt, mul-one, mul-add, arith, eq-eqb, ne_eqb}
 use native.Mathlib.Nat.{div-add-mod, add-mul-mod_self_right, add-mul-div_left}
 use borrow.Author.Differences.{ints}
 use Rattle.std.proofs.lemmas.List.FromFn.{fill_by_all}
 use Rattle.std.proofs.lemmas.List.Edits.{fill_by_more}
-use Rattle.algebra.specs.Ints.{Cong}
 use Rattle.algebra.specs.Polys.{Poly}
 use Rattle.algebra.specs.Words.{coeffs, word_of, words}
 use Rattle.algebra.specs.Gates.{combine, invert, extract, extracted, narrow, rounded}

@@ -1,5 +1,5 @@
 -- Start and sweep, one after the other.
-use Rattle.std.proofs.Common.{◌≡◌, ℕ, ◌+◌, ◌*◌, ◌≤◌, List, length, get_or, take, set, sym, refl, ap, ◌∙◌, subst, ap₂, arith}
+use Rattle.std.proofs.Common.{◌≡◌, ℕ, List, set, ap, ◌∙◌, ap₂}
 use Rattle.std.proofs.lemmas.List.{take-set}
 use Rattle.kernels.specs.Polynomials.{reduced}
 use Rattle.set.specs.declared.numbers.Numbers.{Numbers}

@@ -1,12 +1,12 @@
 -- Rows times digits, added modulo 2^32 and then taken modulo M.
-use Rattle.std.proofs.Common.{◌≡◌, ℕ, zero, suc, ◌+◌, ◌-◌, ◌*◌, ◌/◌, ◌%◌, ◌^◌, ◌<◌, ◌≤◌, List, length, get_or, take, drop, ℤ, pos, ◌+ℤ◌, ◌-ℤ◌, ◌*ℤ◌, neg_ℤ, nat_abs, ◌≤ℤ◌, sym, refl, ap, ◌∙◌, subst, add-zero, mul-le-mul_right, suc-mul, mul-add, add-one, arith}
+use Rattle.std.proofs.Common.{◌≡◌, ℕ, ◌+◌, ◌*◌, ◌/◌, ◌%◌, ◌^◌, ◌<◌, ◌≤◌, List, length, get_or, take, drop, ℤ, pos, ◌+ℤ◌, ◌*ℤ◌, neg_ℤ, nat_abs, ◌≤ℤ◌, sym, refl, ap, ◌∙◌, subst, mul-le-mul_right, suc-mul, add-one, arith}
 use borrow.Author.Differences.{ints}
 use Rattle.std.proofs.lemmas.List.{get_or-take, get_or-drop}
 use Rattle.algebra.proofs.Ring.{*ℤ-assoc}
 use Rattle.algebra.specs.Ints.{Cong, sum_z}
 use Rattle.algebra.specs.Words.{word_of}
 use Rattle.algebra.proofs.Bridge.{mod_cong, word_cong}
-use Rattle.algebra.proofs.Cong.{same, cong_refl, cong_sym, cong_trans, cong_add, cong_mul}
+use Rattle.algebra.proofs.Cong.{same, cong_refl, cong_trans, cong_add, cong_mul}
 use Rattle.std.proofs.ByRecursion.{All-get_or}
 use Rattle.words.specs.Digits.{split_of}
 use Rattle.words.specs.Gadgets.{Within, SplitRight}

@@ -1,12 +1,11 @@
 -- What a checked set tells of its numbers.
-use Rattle.std.proofs.Common.{◌≡◌, ℕ, zero, suc, ◌+◌, ◌-◌, ◌*◌, ◌/◌, ◌%◌, ◌^◌, ◌<◌, ◌≤◌, false, ◌⊎◌, sym, refl, ap, ◌∙◌, subst, inl, inr, mod-lt, one-mul, zero-mul, mul-one, mul-div_cancel, arith}
+use Rattle.std.proofs.Common.{◌≡◌, ℕ, zero, suc, ◌+◌, ◌-◌, ◌*◌, ◌/◌, ◌%◌, ◌^◌, ◌<◌, ◌≤◌, ◌⊎◌, sym, refl, ap, ◌∙◌, subst, inl, inr, mod-lt, zero-mul, mul-div_cancel, arith}
 use native.Mathlib.Nat.{mul-mod_left, mul-lt-mul_of_pos_left}
 use Rattle.std.proofs.lemmas.Nat.{pow_below, pow_pos, pow-add}
 use Rattle.std.proofs.lemmas.Bool.{cases_order}
 use Rattle.algebra.specs.Digits.{Covers}
 use Rattle.algebra.specs.Gates.{Closes, ring_noise, switch_noise}
 use Rattle.words.specs.Powers.{Power}
-use Rattle.set.specs.declared.numbers.Numbers.{Numbers}
 use Rattle.set.specs.declared.within.Within.{Within}
 use Rattle.set.specs.declared.checked.Set.{Set}
 use Rattle.set.specs.Limits.{Limits}

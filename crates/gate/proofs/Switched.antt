@@ -1,18 +1,17 @@
 -- The switch, from what is added modulo 2^32.
-use Rattle.std.proofs.Common.{◌≡◌, ℕ, zero, suc, ◌+◌, ◌-◌, ◌*◌, ◌/◌, ◌%◌, ◌^◌, ◌<◌, ◌≤◌, Bool, true, false, cond, eqb, List, length, get_or, take, drop, set, replicate, ℤ, pos, ◌+ℤ◌, ◌*ℤ◌, sym, refl, ap, ◌∙◌, subst, ap₂, mod-lt, arith, length-set, eq-eqb, ne_eqb}
+use Rattle.std.proofs.Common.{◌≡◌, ℕ, suc, ◌+◌, ◌-◌, ◌*◌, ◌/◌, ◌%◌, ◌^◌, ◌<◌, Bool, true, false, cond, eqb, List, length, get_or, take, drop, set, replicate, ℤ, pos, ◌+ℤ◌, ◌*ℤ◌, sym, ap, ◌∙◌, subst, ap₂, arith, length-set, eq-eqb, ne_eqb}
 use native.Mathlib.Decide.{ℕ_discrete}
 use native.Mathlib.Nat.{div-add-mod}
 use lib.ListN.{length-replicate}
 use Rattle.std.proofs.lemmas.List.{get_or-set_same, get_or-set_other, get_or-replicate, get_or-take}
 use Rattle.algebra.specs.Ints.{Cong, sum_z}
-use Rattle.algebra.specs.Words.{coeffs, words}
 use Rattle.algebra.specs.Digits.{word_digit}
 use Rattle.algebra.specs.Gates.{switched, switch}
 use Rattle.algebra.proofs.Bridge.{mod_cong}
 use Rattle.algebra.proofs.Cong.{same, cong_refl, cong_sym, cong_trans, cong_add}
 use Rattle.algebra.proofs.Sums.{sum_same}
-use Rattle.algebra.proofs.Words.{words_from, words_at, words_long}
-use Rattle.words.specs.Digits.{digits_of, scaled_of, split_of}
+use Rattle.algebra.proofs.Words.{words_from}
+use Rattle.words.specs.Digits.{scaled_of, split_of}
 use Rattle.words.specs.declared.gadget.Gadget.{Gadget}
 use Rattle.words.proofs.Filling.{digits_at}
 use Rattle.kernels.specs.Polynomials.{reduced}

@@ -1,5 +1,5 @@
 -- The first accumulator before the start key: a power of X times the test polynomial.
-use Rattle.std.proofs.Common.{◌≡◌, ℕ, zero, suc, ◌+◌, ◌-◌, ◌*◌, ◌/◌, ◌%◌, ◌<◌, ◌≤◌, Bool, true, false, cond, not, List, length, get_or, ℤ, pos, neg_ℤ, sym, refl, ap, ◌∙◌, subst, div-add-mod', arith}
+use Rattle.std.proofs.Common.{◌≡◌, ℕ, ◌+◌, ◌-◌, ◌*◌, ◌/◌, ◌%◌, ◌<◌, ◌≤◌, Bool, true, false, cond, not, List, length, get_or, ℤ, pos, neg_ℤ, sym, refl, ap, ◌∙◌, div-add-mod', arith}
 use native.Mathlib.Nat.{mul-add-mod_self_right}
 use borrow.Author.Differences.{ints}
 use Rattle.algebra.specs.Polys.{Poly, power, wrapped}

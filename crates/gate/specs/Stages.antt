@@ -1,5 +1,5 @@
 -- The stages of a gate, each as words.
-use Rattle.std.specs.Prelude.{◌≡◌, ℕ, suc, ◌+◌, ◌*◌, ◌^◌, ◌<◌, List, length, take, ℤ, pos, ◌+ℤ◌, ◌*ℤ◌, slice_index, slice_index_or}
+use Rattle.std.specs.Prelude.{ℕ, suc, ◌+◌, ◌*◌, ◌^◌, ◌<◌, List, length, take, ℤ, pos, ◌+ℤ◌, ◌*ℤ◌, slice_index, slice_index_or}
 use Rattle.algebra.specs.Ints.{Cong, sum_z}
 use Rattle.algebra.specs.Gates.{beginning, combine, invert, extract, narrow, switch}
 use Rattle.words.specs.Digits.{split_of}

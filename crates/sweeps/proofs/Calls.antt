@@ -1,5 +1,5 @@
 -- A kernel's calls on lists of N words are not refused.
-use Rattle.std.proofs.Common.{◌≡◌, ℕ, ◌<◌, cond, List, [], ◌∷◌, length, get_or, replicate, pos, is_ok, Ok, Result, sym, refl, ap, ◌∙◌, subst, arith, eq-eqb}
+use Rattle.std.proofs.Common.{◌≡◌, ℕ, ◌<◌, List, [], ◌∷◌, get_or, replicate, pos, Ok, Result, sym, refl, ap, ◌∙◌, subst, arith, eq-eqb}
 use Rattle.std.proofs.lemmas.List.{get_or-replicate}
 use Rattle.faults.specs.declared.fault.Fault.{Fault}
 use Rattle.rings.specs.declared.ring.Ring.{Ring}

@@ -1,14 +1,9 @@
 -- Exponents of Y modulo q are exponents of X modulo 2N.
-use Rattle.std.proofs.Common.{◌≡◌, ℕ, ◌+◌, ◌-◌, ◌*◌, ◌/◌, ◌%◌, ◌^◌, ◌<◌, ◌≤◌, ◌⊎◌, sym, refl, ap, ◌∙◌, subst, inl, inr, mul_assoc, mul_comm, mul-le-mul_left, mul-suc, mul-add, arith}
-use Rattle.std.proofs.lemmas.Nat.{pow_pos, pow-add, pow_below, shl-shr, div-add-mod', mod_below, mod-mul-add}
+use Rattle.std.proofs.Common.{◌≡◌, ℕ, ◌+◌, ◌-◌, ◌*◌, ◌/◌, ◌%◌, ◌^◌, ◌<◌, ◌≤◌, sym, ap, ◌∙◌, inl, inr, mul_assoc, mul_comm, mul-le-mul_left, mul-suc, mul-add, arith}
+use Rattle.std.proofs.lemmas.Nat.{pow-add, pow_below, shl-shr, div-add-mod', mod_below, mod-mul-add}
 use Rattle.std.proofs.lemmas.Bool.{cases_order}
-use Rattle.words.specs.Powers.{Power}
-use Rattle.set.specs.Limits.{Limits}
-use Rattle.set.specs.declared.numbers.Numbers.{Numbers}
-use Rattle.set.specs.declared.checked.Set.{Set}
 use Rattle.set.specs.declared.within.Within.{Within}
 use Rattle.set.proofs.Limits.{limits_of}
-use Rattle.sweeps.specs.Meaning.{turns}
 
 -- a power of two divides each greater one
 power_divides : (i j : ℕ) → 2 ^ i ≤ 2 ^ j → 2 ^ j ≡ 2 ^ j / 2 ^ i * 2 ^ i

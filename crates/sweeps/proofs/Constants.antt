@@ -1,10 +1,10 @@
 -- Constant polynomials as words, and the messages of selectors.
-use Rattle.std.proofs.Common.{◌≡◌, ℕ, zero, suc, ◌+◌, ◌*◌, ◌%◌, ◌<◌, List, length, get_or, set, replicate, ℤ, pos, negsuc, ◌*ℤ◌, sym, refl, ap, ◌∙◌, mod-eq_of_lt, arith, length-set}
+use Rattle.std.proofs.Common.{◌≡◌, ℕ, zero, suc, ◌<◌, List, length, get_or, set, replicate, ℤ, ◌*ℤ◌, sym, ap, ◌∙◌, mod-eq_of_lt, arith, length-set}
 use lib.IntN.{*ℤ-zero, *ℤ-one}
 use lib.ListN.{length-replicate}
 use Rattle.std.proofs.lemmas.List.{get_or-set_same, get_or-set_other, get_or-replicate}
 use Rattle.algebra.specs.Polys.{one, scale}
-use Rattle.algebra.specs.Words.{word_of, words}
+use Rattle.algebra.specs.Words.{word_of}
 use Rattle.set.specs.declared.numbers.Numbers.{Numbers}
 use Rattle.sweeps.specs.Steps.{constant}
 use Rattle.sweeps.proofs.Filled.{words_fill}

@@ -1,10 +1,10 @@
 -- Signed numbers kept as words: their quotients and digits, and the words that they stand for.
-use Rattle.std.proofs.Common.{◌≡◌, ℕ, suc, ◌+◌, ◌-◌, ◌*◌, ◌/◌, ◌%◌, ◌^◌, ◌<◌, ◌≤◌, true, false, ◌⊎◌, ℤ, pos, negsuc, ◌+ℤ◌, ◌-ℤ◌, ◌*ℤ◌, neg_ℤ, nat_abs, ◌≤ℤ◌, ◌<ℤ◌, sym, refl, ap, ◌∙◌, subst, inl, inr, mul-le-mul_right, mul_comm, add-mul, mul-le-mul_left, mul-one, arith}
+use Rattle.std.proofs.Common.{◌≡◌, ℕ, ◌+◌, ◌-◌, ◌*◌, ◌/◌, ◌%◌, ◌^◌, ◌<◌, ◌≤◌, ℤ, pos, ◌+ℤ◌, ◌-ℤ◌, ◌*ℤ◌, neg_ℤ, nat_abs, sym, ap, ◌∙◌, inl, inr, mul-le-mul_right, mul_comm, add-mul, mul-le-mul_left, mul-one, arith}
 use Rattle.std.proofs.lemmas.Int.{ints}
 use Rattle.std.proofs.lemmas.Nat.{pow_pos, pow-add, shl-shr, div-add-mod', mod_below}
 use Rattle.std.proofs.lemmas.Bool.{cases_order, lt-ltb, le-ltb}
-use Rattle.algebra.specs.Ints.{Cong, floor_z}
-use Rattle.algebra.specs.Digits.{centred, rest_of, digit_of}
+use Rattle.algebra.specs.Ints.{floor_z}
+use Rattle.algebra.specs.Digits.{centred, digit_of}
 use Rattle.algebra.specs.Words.{word_of}
 use Rattle.algebra.proofs.Ring.{distribˡ, negʳ}
 use Rattle.algebra.proofs.Digits.{floor_bound}

@@ -1,11 +1,11 @@
 -- Keys made from an inverse of the ring secret fit.
-use Rattle.std.proofs.Common.{◌≡◌, ℕ, ◌+◌, ◌*◌, ◌/◌, ◌%◌, ◌<◌, ◌≤◌, List, [], map, length, get_or, ℤ, sym, refl, ap, ◌∙◌, subst, arith}
+use Rattle.std.proofs.Common.{◌≡◌, ℕ, ◌+◌, ◌*◌, ◌/◌, ◌%◌, ◌<◌, List, [], map, get_or, ℤ, sym, ap, ◌∙◌, subst, arith}
 use Rattle.std.specs.List.{range_with_len}
 use Rattle.std.proofs.lemmas.Nat.{div-mul-add, mod-mul-add}
 use Rattle.std.proofs.lemmas.List.FromFn.{get_or-map-range_with_len, length-map-range_with_len}
-use Rattle.algebra.specs.Keys.{gadget, Key}
+use Rattle.algebra.specs.Keys.{gadget}
 use Rattle.algebra.specs.Near.{Nearby}
-use Rattle.algebra.specs.Polys.{Poly, Alike, Within, one, plus, scale, mul}
+use Rattle.algebra.specs.Polys.{Poly, Alike, Within, one, scale, mul}
 use Rattle.algebra.specs.Words.{coeffs, words}
 use Rattle.algebra.proofs.Cong.{cong_refl}
 use Rattle.algebra.proofs.Making.{made_start_lem, made_selector}
@@ -15,7 +15,7 @@ use Rattle.algebra.proofs.Words.{words_alike, words_long, words_below}
 use Rattle.kernels.specs.Polynomials.{IsPoly}
 use Rattle.set.specs.declared.numbers.Numbers.{Numbers}
 use Rattle.set.specs.declared.within.Within as set
-use Rattle.sweeps.specs.Fit.{entries, key_at, FitsStart, FitSelectors, FitsSweep}
+use Rattle.sweeps.specs.Fit.{entries, FitsStart, FitSelectors}
 use Rattle.sweeps.specs.Forms.{ArePolys}
 use Rattle.sweeps.specs.Making.{start_part, selector_part, made_start, made_selectors, KeysFit}
 use Rattle.sweeps.proofs.Rows.{row_ends}

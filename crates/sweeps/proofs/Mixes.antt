@@ -1,10 +1,10 @@
 -- (X^j - 1) T added to an accumulator.
-use Rattle.std.proofs.Common.{◌≡◌, ℕ, zero, suc, ◌+◌, ◌-◌, ◌*◌, ◌/◌, ◌%◌, ◌^◌, ◌<◌, ◌≤◌, Bool, true, false, cond, not, ltb, ◌⊎◌, List, length, get_or, ℤ, pos, ◌+ℤ◌, ◌-ℤ◌, neg_ℤ, sym, refl, ap, ◌∙◌, subst, inl, inr, mod-lt, mod-eq_of_lt, arith}
+use Rattle.std.proofs.Common.{◌≡◌, ℕ, ◌+◌, ◌-◌, ◌*◌, ◌%◌, ◌<◌, ◌≤◌, Bool, true, false, not, List, length, get_or, ℤ, pos, ◌+ℤ◌, ◌-ℤ◌, neg_ℤ, sym, refl, ap, ◌∙◌, inl, inr, mod-lt, mod-eq_of_lt, arith}
 use Rattle.std.proofs.lemmas.Int.{ints}
 use Rattle.std.proofs.lemmas.Nat.{mod-mul-add}
 use Rattle.std.proofs.lemmas.Bool.{cases_lt, lt-ltb, le-ltb}
 use Rattle.algebra.specs.Ints.{Cong}
-use Rattle.algebra.specs.Polys.{Poly, Alike, wrapped, power}
+use Rattle.algebra.specs.Polys.{Poly, Alike, power}
 use Rattle.algebra.specs.Sweeps.{turned, stepped, paired}
 use Rattle.algebra.specs.Words.{coeffs, word_of, words}
 use Rattle.algebra.proofs.Cong.{same, cong_refl, cong_neg, cong_trans, cong_add}

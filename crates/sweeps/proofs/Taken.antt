@@ -1,5 +1,5 @@
 -- What an accumulator taken by a key means.
-use Rattle.std.proofs.Common.{ℕ, ◌/◌, ◌<◌, List, get_or, arith}
+use Rattle.std.proofs.Common.{ℕ, ◌/◌, List, arith}
 use Rattle.algebra.proofs.Keys.{split_words, start_near, selector_near}
 use Rattle.algebra.specs.Keys.{Splits, split}
 use Rattle.algebra.specs.Words.{coeffs}

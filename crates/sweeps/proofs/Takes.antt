@@ -1,11 +1,11 @@
 -- Sums of products of digits and keys, term by term, and with congruent factors.
-use Rattle.std.proofs.Common.{◌≡◌, ℕ, zero, suc, ◌+◌, ◌*◌, ◌<◌, ◌≤◌, List, [], map, get_or, ℤ, pos, ◌+ℤ◌, sym, refl, ap, ◌∙◌, add-one, arith}
+use Rattle.std.proofs.Common.{◌≡◌, ℕ, ◌+◌, ◌*◌, ◌<◌, ◌≤◌, List, [], map, get_or, pos, ◌+ℤ◌, sym, refl, ap, ◌∙◌, add-one, arith}
 use Rattle.std.specs.List.{range_with_len}
 use Rattle.std.proofs.lemmas.List.FromFn.{get_or-map-range_with_len}
 use Rattle.rings.specs.declared.ring.Ring.{Ring}
 use Rattle.set.specs.declared.numbers.Numbers.{Numbers}
 use Rattle.set.specs.declared.checked.Set.{Set}
-use Rattle.algebra.specs.Ints.{Cong, sum_z}
+use Rattle.algebra.specs.Ints.{sum_z}
 use Rattle.algebra.specs.Polys.{Poly, Alike, plus, mul}
 use Rattle.algebra.specs.Keys.{taken}
 use Rattle.algebra.specs.Words.{coeffs, words, fused}

@@ -1,5 +1,5 @@
 -- Sweeps step by step: no step, one step more, all steps.
-use Rattle.std.proofs.Common.{◌≡◌, ℕ, zero, suc, ◌+◌, ◌*◌, ◌/◌, ◌<◌, ◌≤◌, List, get_or, refl, ap, ◌∙◌, mul-le-mul_right, add-one, arith}
+use Rattle.std.proofs.Common.{◌≡◌, ℕ, ◌+◌, ◌*◌, ◌/◌, ◌<◌, ◌≤◌, List, get_or, refl, ap, ◌∙◌, mul-le-mul_right, add-one}
 use Rattle.set.specs.declared.numbers.Numbers.{Numbers}
 use Rattle.sweeps.specs.Steps.{single_step, single_steps, single_run, paired_step, paired_steps, paired_run}
 use Rattle.sweeps.proofs.Rows.{row_ends}

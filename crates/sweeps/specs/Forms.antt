@@ -1,5 +1,5 @@
 -- Polynomials kept one after the other in one list of words.
-use Rattle.std.specs.Prelude.{◌≡◌, ℕ, ◌+◌, ◌*◌, ◌<◌, List, [], map, length, take, drop, slice_index_or}
+use Rattle.std.specs.Prelude.{ℕ, ◌*◌, ◌<◌, List, [], map, length, take, drop, slice_index_or}
 use Rattle.std.specs.List.{range_with_len}
 use Rattle.kernels.specs.Polynomials.{IsPoly}
 

@@ -1,5 +1,5 @@
 -- Keys that are made from the ring secret's inverse, and that they fit.
-use Rattle.std.specs.Prelude.{◌≡◌, ℕ, ◌*◌, ◌/◌, ◌%◌, ◌<◌, List, map, ℤ}
+use Rattle.std.specs.Prelude.{ℕ, ◌*◌, ◌/◌, ◌%◌, List, map, ℤ}
 use Rattle.std.specs.List.{range_with_len}
 use Rattle.algebra.specs.Keys.{gadget}
 use Rattle.algebra.specs.Polys.{Alike, Within, one, plus, scale, mul}

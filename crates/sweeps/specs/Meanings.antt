@@ -1,9 +1,9 @@
 -- What single and paired sweeps mean under secrets that their keys fit.
-use Rattle.std.specs.Prelude.{◌≡◌, ℕ, zero, suc, ◌+◌, ◌-◌, ◌*◌, ◌/◌, ◌%◌, ◌^◌, ◌<◌, ◌≤◌, ◌⊎◌, List, [], ◌∷◌, length, ℤ, pos, negsuc, ◌+ℤ◌, ◌-ℤ◌, ◌*ℤ◌, slice_index, unsigned_abs, refl}
-use Rattle.std.proofs.Common.{sym, ap, ◌∙◌, inl, inr, arith, mul-add, mul_assoc, mul_comm, mul-zero}
+use Rattle.std.specs.Prelude.{◌≡◌, ℕ, zero, suc, ◌+◌, ◌-◌, ◌*◌, ◌/◌, ◌%◌, ◌^◌, ◌<◌, ◌≤◌, List, [], ◌∷◌, length, ℤ, pos, negsuc, ◌-ℤ◌, ◌*ℤ◌, slice_index, unsigned_abs, refl}
+use Rattle.std.proofs.Common.{sym, ap, ◌∙◌, inl, inr, arith, mul-add, mul_assoc, mul-zero}
 use Rattle.std.proofs.Math.Path.{subst}
 use Rattle.std.proofs.lemmas.Int.{ints}
-use Rattle.algebra.specs.Polys.{Poly, Alike, one, scale, mul, weight}
+use Rattle.algebra.specs.Polys.{Poly, Alike, one, scale, weight}
 use Rattle.algebra.specs.Digits.{Covers}
 use Rattle.algebra.specs.Keys.{Selector, bit, gadget}
 use Rattle.algebra.specs.Sweeps.{Carries, total, singles, pairs, external, stepped, paired}

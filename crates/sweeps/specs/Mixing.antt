@@ -1,7 +1,7 @@
 -- (X^j - 1) T added to an accumulator, place by place.
 use Rattle.std.specs.Prelude.{◌≡◌, ℕ, ◌+◌, ◌-◌, ◌<◌, ◌≤◌, Bool, cond, List, length, ℤ, pos, ◌+ℤ◌, ◌-ℤ◌, neg_ℤ, slice_index}
 use Rattle.algebra.specs.Polys.{Poly, wrapped}
-use Rattle.algebra.specs.Words.{coeffs, word_of, words}
+use Rattle.algebra.specs.Words.{coeffs, word_of}
 
 -- a coefficient, with its sign turned where `back`
 abbrev pub turned_if : Bool → ℤ → ℤ

@@ -1,5 +1,5 @@
 -- The stated noises stay below 2^55.
-use Rattle.std.specs.Prelude.{ℕ, ◌*◌, ◌/◌, ◌^◌, ◌≤◌}
+use Rattle.std.specs.Prelude.{◌*◌, ◌/◌, ◌^◌, ◌≤◌}
 use Rattle.std.proofs.Common.{arith}
 use Rattle.set.specs.Noise.{single_noise, paired_noise}
 use Rattle.set.specs.declared.within.Within.{Within}

@@ -1,4 +1,4 @@
-use Rattle.std.proofs.Common.{◌≡◌, ℕ, ◌+◌, ◌*◌, ◌<◌, ◌≤◌, mul-le-mul_right, add-mul, arith}
+use Rattle.std.proofs.Common.{ℕ, ◌+◌, ◌*◌, ◌<◌, ◌≤◌, mul-le-mul_right, add-mul, arith}
 
 -- a row of n words ends within the rows that there are
 pub row_ends : (i count n : ℕ) → i < count → i * n + n ≤ count * n

@@ -1,6 +1,6 @@
-use Rattle.std.proofs.Common.{◌≡◌, ℕ, ◌+◌, ◌*◌, List, sym, ap, ◌∙◌, subst, ap₂}
+use Rattle.std.proofs.Common.{ℕ, ◌*◌, List, sym, ◌∙◌, subst}
 use Rattle.sweeps.specs.Forms.{read_rows}
-use Rattle.gate.specs.Gates.{rotated_of, settled_of, gate_of, GateHolds}
+use Rattle.gate.specs.Gates.{GateHolds}
 use Rattle.gate.proofs.Holding.{gate_holds, gate_from}
 use Rattle.gate.proofs.Keys.{read_long, read_polys}
 use Rattle.gate.proofs.bootstrap.gate_right.Goals as goal

@@ -1,4 +1,4 @@
-use Rattle.std.proofs.Common.{◌≡◌, ℕ, ◌+◌, ◌-◌, ◌*◌, List, sym, ap, ◌∙◌, subst, ap₂}
+use Rattle.std.proofs.Common.{◌≡◌, ℕ, ◌+◌, ◌-◌, ◌*◌, List, sym, ap, ◌∙◌, subst}
 use borrow.Rule.Slice.PartMut.{put_mid}
 use Rattle.gate.specs.Keys.{start_of, selectors_of}
 use Rattle.gate.specs.Gates.{gate_of, GateHolds, register_at, with_register}

@@ -1,4 +1,4 @@
-use Rattle.std.proofs.Common.{◌≡◌, ℕ, ◌+◌, ◌*◌, ◌≤◌, List, length, take, drop, sym, ap, ◌∙◌, subst, ap₂, arith}
+use Rattle.std.proofs.Common.{ℕ, ◌+◌, ◌*◌, ◌≤◌, List, length, take, drop, sym, ap, ◌∙◌, subst, ap₂, arith}
 use lib.Seq.{paste}
 use Rattle.algebra.specs.Gates.{invert}
 use Rattle.gate.specs.Lengths.{words_of}

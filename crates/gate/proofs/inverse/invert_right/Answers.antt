@@ -1,4 +1,4 @@
-use Rattle.std.proofs.Common.{◌≡◌, ℕ, List, sym, ◌∙◌, subst, ap₂}
+use Rattle.std.proofs.Common.{ℕ, List, sym, ◌∙◌, subst, ap₂}
 use Rattle.algebra.specs.Gates.{invert}
 use Rattle.gate.specs.Gates.{InvertHolds}
 use Rattle.gate.proofs.Opposite.{inverts}

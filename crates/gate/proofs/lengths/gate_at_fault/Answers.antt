@@ -1,4 +1,4 @@
-use Rattle.std.proofs.Common.{◌≡◌, ℕ, max, ap, ◌∙◌}
+use Rattle.std.proofs.Common.{ℕ, max, ap, ◌∙◌}
 use Rattle.gate.proofs.Reach.{x_within, y_within, z_within}
 use Rattle.gate.proofs.lengths.gate_at_fault.Goals as goal
 

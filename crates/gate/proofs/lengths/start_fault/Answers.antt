@@ -1,4 +1,4 @@
-use Rattle.std.proofs.Common.{◌≡◌, ◌∙◌}
+use Rattle.std.proofs.Common.{◌∙◌}
 use Rattle.gate.proofs.lengths.start_fault.Goals as goal
 
 pub returns : goal.returns

@@ -1,4 +1,4 @@
-use Rattle.std.proofs.Common.{◌≡◌, ◌∙◌}
+use Rattle.std.proofs.Common.{◌∙◌}
 use Rattle.gate.proofs.lengths.sweep_fault.Goals as goal
 
 pub returns : goal.returns

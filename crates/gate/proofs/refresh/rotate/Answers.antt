@@ -1,7 +1,5 @@
-use Rattle.std.proofs.Common.{◌≡◌, ℕ, ◌+◌, ◌*◌, List, length, take, set, sym, ap, ◌∙◌, subst, ap₂, arith}
+use Rattle.std.proofs.Common.{◌*◌, ◌∙◌}
 use Rattle.sweeps.specs.Forms.{read_rows}
-use Rattle.gate.specs.Stages.{started_of, swept_of}
-use Rattle.gate.specs.Gates.{rotated_of}
 use Rattle.gate.proofs.Rotated.{rotated_from}
 use Rattle.gate.proofs.refresh.rotate.Goals as goal
 

@@ -1,5 +1,4 @@
-use Rattle.std.proofs.Common.{◌≡◌, ℕ, ◌+◌, ◌*◌, ◌%◌, ◌^◌, ◌<◌, List, length, get_or, take, drop, ℤ, pos, ◌*ℤ◌, sym, refl, ap, ◌∙◌, subst, ap₂, mul-le-mul_right, suc-mul, arith}
-use Rattle.algebra.specs.Ints.{Cong}
+use Rattle.std.proofs.Common.{◌≡◌, ℕ, ◌+◌, ◌*◌, ◌<◌, List, length, get_or, take, drop, pos, ◌*ℤ◌, ap, ◌∙◌, arith}
 use Rattle.gate.proofs.Rows.{added_none, added_then, one_row, part_at, room}
 use Rattle.gate.proofs.switching.add_digits.Goals as goal
 

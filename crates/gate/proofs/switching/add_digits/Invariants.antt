@@ -1,4 +1,4 @@
-use Rattle.std.proofs.Common.{ℕ, length}
+use Rattle.std.proofs.Common.{length}
 use Rattle.gate.specs.Stages.{Added, rows_of}
 use Rattle.gate.proofs.switching.add_digits.Given as goal
 

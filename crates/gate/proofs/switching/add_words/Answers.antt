@@ -1,5 +1,4 @@
-use Rattle.std.proofs.Common.{◌≡◌, ℕ, ◌+◌, ◌*◌, ◌^◌, ◌<◌, List, length, get_or, take, drop, ℤ, pos, ◌*ℤ◌, sym, refl, ap, ◌∙◌, subst, arith}
-use Rattle.algebra.specs.Ints.{sum_z}
+use Rattle.std.proofs.Common.{◌≡◌, ℕ, ◌+◌, ◌*◌, List, length, get_or, take, drop, pos, ◌*ℤ◌, ap, ◌∙◌, arith}
 use Rattle.algebra.proofs.Sums.{sum_same}
 use Rattle.gate.specs.Stages.{split_by, rows_of, all_rows_of}
 use Rattle.gate.proofs.Rows.{added_none, added_then, part_at, room, part_room}

@@ -1,4 +1,4 @@
-use Rattle.std.proofs.Common.{ℕ, length}
+use Rattle.std.proofs.Common.{length}
 use Rattle.algebra.specs.Ints.{sum_z}
 use Rattle.gate.specs.Stages.{Added, all_rows_of}
 use Rattle.gate.proofs.switching.add_words.Given as goal

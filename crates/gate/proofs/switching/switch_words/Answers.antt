@@ -1,7 +1,5 @@
-use Rattle.std.proofs.Common.{◌≡◌, ℕ, ◌+◌, ◌-◌, ◌*◌, ◌^◌, ◌<◌, List, length, get_or, take, drop, sym, refl, ap, ◌∙◌, subst, ap₂, arith, length-take}
-use Rattle.algebra.specs.Ints.{sum_z}
+use Rattle.std.proofs.Common.{◌≡◌, ℕ, ◌+◌, ◌-◌, List, length, take, drop, ◌∙◌, ap₂, arith, length-take}
 use Rattle.kernels.specs.Polynomials.{reduced}
-use Rattle.gate.specs.Stages.{Added, all_rows_of, switch_words}
 use Rattle.gate.proofs.Rows.{added_lengths}
 use Rattle.gate.proofs.Switched.{switched_from}
 use Rattle.gate.proofs.switching.switch_words.Goals as goal

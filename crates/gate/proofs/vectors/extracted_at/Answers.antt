@@ -1,4 +1,4 @@
-use Rattle.std.proofs.Common.{◌≢◌, ◌∙◌, arith}
+use Rattle.std.proofs.Common.{◌∙◌, arith}
 use Rattle.gate.proofs.Places.{extracted_last, extracted_first, extracted_next}
 use Rattle.gate.proofs.vectors.extracted_at.Goals as goal
 

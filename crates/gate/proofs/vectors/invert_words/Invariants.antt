@@ -1,4 +1,4 @@
-use Rattle.std.proofs.Common.{◌≡◌, ℕ, ◌+◌, ◌*◌, ◌/◌, ◌<◌, cond, eqb, get_or, pos, ◌-ℤ◌}
+use Rattle.std.proofs.Common.{◌≡◌, ℕ, ◌/◌, ◌<◌, cond, eqb, get_or, pos, ◌-ℤ◌}
 use Rattle.algebra.specs.Words.{word_of}
 use Rattle.gate.proofs.vectors.invert_words.Given as goal
 

@@ -1,4 +1,4 @@
-use Rattle.std.proofs.Common.{◌≡◌, ℕ, ◌%◌, ◌<◌, get_or}
+use Rattle.std.proofs.Common.{◌≡◌, ℕ, ◌<◌, get_or}
 use Rattle.words.specs.Rounding.{rounded_to}
 use Rattle.gate.proofs.vectors.narrow_words.Given as goal
 

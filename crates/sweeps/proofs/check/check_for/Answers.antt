@@ -1,10 +1,10 @@
 use Rattle.std.proofs.Common.{◌≡◌, ℕ, Option, sym, ap, ◌∙◌, subst, arith}
 use Rattle.std.proofs.lemmas.Result.{err_from_is_err_and, IfOk-weaker}
 use Rattle.faults.specs.declared.fault.Fault.{Fault}
-use Rattle.faults.specs.Least.{Least, refusal}
+use Rattle.faults.specs.Least.{Least}
 use Rattle.set.specs.declared.numbers.Numbers.{Numbers}
 use Rattle.set.specs.Limits.{limits_broken}
-use Rattle.set.specs.Rules.{rules_broken, set_broken, WrongSet}
+use Rattle.set.specs.Rules.{rules_broken, WrongSet}
 use Rattle.set.proofs.Limits.{Short, or_first, or_next}
 use Rattle.set.proofs.Rules.{set_least}
 use Rattle.sweeps.specs.Checking.{StatedFor}

@@ -1,6 +1,5 @@
-use Rattle.std.proofs.Common.{◌≡◌, ℕ, ◌-◌, ◌^◌, List, length, get_or, ℤ, sym, ap, ◌∙◌, arith}
+use Rattle.std.proofs.Common.{◌-◌, ◌^◌, length, get_or, ℤ, sym, ap, ◌∙◌, arith}
 use Rattle.algebra.specs.Digits.{digit}
-use Rattle.algebra.specs.Words.{words}
 use Rattle.sweeps.specs.Held.{under}
 use Rattle.sweeps.proofs.Filled.{digit_first, digit_only, digit_next, words_each}
 use Rattle.sweeps.proofs.digits.cut.Goals as goal

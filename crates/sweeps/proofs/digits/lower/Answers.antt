@@ -1,4 +1,4 @@
-use Rattle.std.proofs.Common.{◌≡◌, ℕ, ◌+◌, ◌/◌, ◌^◌, ◌<◌, length, get_or, ℤ, pos, ◌+ℤ◌, ap, ◌∙◌, arith}
+use Rattle.std.proofs.Common.{◌≡◌, ◌/◌, ◌^◌, ◌<◌, length, get_or, ℤ, pos, ◌+ℤ◌, ap, ◌∙◌, arith}
 use Rattle.algebra.specs.Ints.{floor_z}
 use Rattle.algebra.specs.Digits.{centred, lowered}
 use Rattle.sweeps.specs.Held.{under, Held}

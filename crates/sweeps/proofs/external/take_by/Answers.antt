@@ -1,4 +1,4 @@
-use Rattle.std.proofs.Common.{◌≡◌, ◌∙◌, arith}
+use Rattle.std.proofs.Common.{◌∙◌, arith}
 use Rattle.sweeps.specs.External.{taken_words}
 use Rattle.sweeps.proofs.external.take_by.Goals as goal
 

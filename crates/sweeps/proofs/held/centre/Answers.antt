@@ -1,4 +1,3 @@
-use Rattle.std.proofs.Common.{arith}
 use Rattle.sweeps.proofs.Keeping.{centred_high, centred_low}
 use Rattle.sweeps.proofs.held.centre.Goals as goal
 

@@ -1,6 +1,6 @@
 use Rattle.std.proofs.Common.{◌≡◌, ℕ, ◌+◌, ◌-◌, ◌*◌, ◌/◌, ◌%◌, ◌^◌, ◌<◌, ◌≤◌, ℤ, sym, ap, ◌∙◌, arith}
 use lib.Bits.{bit_and}
-use Rattle.std.proofs.lemmas.Nat.{and_mask, one_shl, mod_below, pow_pos}
+use Rattle.std.proofs.lemmas.Nat.{and_mask, one_shl}
 use Rattle.algebra.specs.Words.{word_of}
 use Rattle.sweeps.proofs.Keeping.{digit_value, digit_close, word_less, word_more}
 use Rattle.sweeps.proofs.held.digit_word.Goals as goal

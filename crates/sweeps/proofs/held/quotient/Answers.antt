@@ -1,4 +1,4 @@
-use Rattle.std.proofs.Common.{◌≡◌, ◌+◌, ◌-◌, ◌/◌, ◌^◌, ◌≤◌, arith}
+use Rattle.std.proofs.Common.{arith}
 use Rattle.sweeps.proofs.Keeping.{quotient_value, quotient_held}
 use Rattle.sweeps.proofs.held.quotient.Goals as goal
 

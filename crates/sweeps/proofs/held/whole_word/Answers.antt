@@ -1,4 +1,4 @@
-use Rattle.std.proofs.Common.{◌≡◌, ℕ, ◌+◌, ◌-◌, ◌^◌, ◌<◌, ◌≤◌, arith}
+use Rattle.std.proofs.Common.{◌^◌, arith}
 use Rattle.sweeps.specs.Held.{under}
 use Rattle.sweeps.proofs.Keeping.{word_less, word_more}
 use Rattle.sweeps.proofs.held.whole_word.Goals as goal

@@ -1,5 +1,4 @@
 use Rattle.std.proofs.Common.{pos, sym, arith}
-use Rattle.std.proofs.lemmas.Int.{ints}
 use Rattle.std.proofs.lemmas.List.{get_or_past}
 use Rattle.sweeps.proofs.messages.entry.Goals as goal
 

@@ -1,4 +1,4 @@
-use Rattle.std.proofs.Common.{◌≡◌, ℕ, ◌<◌, replicate, ℤ, ap, ◌∙◌, arith, w64}
+use Rattle.std.proofs.Common.{ℕ, ◌<◌, replicate, ℤ, ap, ◌∙◌, arith, w64}
 use Rattle.std.proofs.lemmas.Int.{to_z-of_z}
 use Rattle.algebra.specs.Words.{word_of}
 use Rattle.sweeps.proofs.Constants.{constant_is}

@@ -1,4 +1,4 @@
-use Rattle.std.proofs.Common.{◌≡◌, ℕ, ◌+◌, ◌*◌, ◌/◌, ◌<◌, ◌≤◌, List, mul-le-mul_right, mul-add, arith}
+use Rattle.std.proofs.Common.{ℕ, ◌+◌, ◌*◌, ◌/◌, ◌<◌, ◌≤◌, List, mul-le-mul_right, mul-add, arith}
 use Rattle.algebra.specs.Words.{coeffs}
 use Rattle.sweeps.specs.External.{taken_by}
 use Rattle.sweeps.specs.Forms.{read_rows}

@@ -1,4 +1,4 @@
-use Rattle.std.proofs.Common.{◌≡◌, ℕ, ◌+◌, ◌*◌, ◌/◌, ◌<◌, length, refl, arith}
+use Rattle.std.proofs.Common.{◌+◌, ◌*◌, ◌/◌, ◌<◌, refl, arith}
 use Rattle.sweeps.proofs.Rows.{row_ends}
 use Rattle.sweeps.proofs.Walks.{key_ends, paired_none, paired_more, paired_all}
 use Rattle.sweeps.proofs.paired.steps.Goals as goal

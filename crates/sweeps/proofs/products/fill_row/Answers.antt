@@ -1,5 +1,4 @@
-use Rattle.std.proofs.Common.{◌≡◌, ℕ, ◌+◌, ◌-◌, ◌*◌, ◌^◌, List, length, get_or, sym, refl, ap, ◌∙◌, arith, rules}
-use borrow.Rule.Slice.PartMut.{put_mid}
+use Rattle.std.proofs.Common.{◌≡◌, ℕ, ◌+◌, ◌-◌, ◌*◌, ◌^◌, List, get_or, refl, ap, ◌∙◌, arith}
 use Rattle.algebra.specs.Digits.{digit}
 use Rattle.algebra.specs.Polys.{Poly}
 use Rattle.algebra.specs.Words.{words}

@@ -1,4 +1,4 @@
-use Rattle.std.proofs.Common.{◌≡◌, ℕ, ◌+◌, ◌-◌, ◌*◌, ◌^◌, ◌<◌, ◌≤◌, List, length, get_or, sym, ap, ◌∙◌, arith, rules, below_more}
+use Rattle.std.proofs.Common.{◌≡◌, ℕ, ◌+◌, ◌-◌, ◌*◌, ◌^◌, ◌≤◌, List, length, get_or, ap, ◌∙◌, arith, below_more}
 use Rattle.algebra.specs.Digits.{digit}
 use Rattle.algebra.specs.Polys.{Poly}
 use Rattle.algebra.specs.Words.{words}

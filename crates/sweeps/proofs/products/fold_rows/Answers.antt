@@ -1,6 +1,6 @@
-use Rattle.std.proofs.Common.{◌≡◌, ℕ, ◌+◌, ◌*◌, ◌<◌, ◌≤◌, List, length, sym, refl, ap, ◌∙◌, mul-le-mul_left, mul-one, arith}
+use Rattle.std.proofs.Common.{ℕ, ◌+◌, ◌*◌, ◌≤◌, List, sym, ap, ◌∙◌, mul-le-mul_left, mul-one, arith}
 use Rattle.algebra.specs.Polys.{Poly}
-use Rattle.algebra.specs.Words.{coeffs, words}
+use Rattle.algebra.specs.Words.{coeffs}
 use Rattle.sweeps.specs.Forms.{row_of}
 use Rattle.sweeps.proofs.Calls.{after_three, modulus_some, reads_folded}
 use Rattle.sweeps.proofs.Rows.{row_ends}

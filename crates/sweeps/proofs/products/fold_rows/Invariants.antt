@@ -1,4 +1,4 @@
-use Rattle.std.proofs.Common.{◌≡◌, ℕ, ◌+◌}
+use Rattle.std.proofs.Common.{◌≡◌, ◌+◌}
 use Rattle.algebra.specs.Keys.{taken}
 use Rattle.algebra.specs.Words.{coeffs, words}
 use Rattle.sweeps.specs.Forms.{row_of}

@@ -1,5 +1,4 @@
-use Rattle.std.proofs.Common.{◌≡◌, ℕ, List, length, replicate, pos, ap, ◌∙◌, arith}
-use Rattle.algebra.specs.Words.{words}
+use Rattle.std.proofs.Common.{◌≡◌, ℕ, replicate, pos, ap, ◌∙◌, arith}
 use Rattle.kernels.specs.Polynomials.{poly_of}
 use Rattle.sweeps.proofs.Calls.{after_two, poly_zeros, reads_turned}
 use Rattle.sweeps.proofs.products.gather.Goals as goal

@@ -1,4 +1,4 @@
-use Rattle.std.proofs.Common.{◌≡◌, ℕ, ◌^◌, get_or, ℤ, sym, ap, ◌∙◌, arith}
+use Rattle.std.proofs.Common.{◌^◌, get_or, ℤ, ap, ◌∙◌, arith}
 use Rattle.algebra.specs.Digits.{digit}
 use Rattle.algebra.specs.Keys.{split}
 use Rattle.sweeps.specs.Held.{under}

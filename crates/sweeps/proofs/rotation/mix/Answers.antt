@@ -1,6 +1,5 @@
-use Rattle.std.proofs.Common.{◌≡◌, ℕ, ◌+◌, ◌-◌, ◌%◌, ◌<◌, Bool, true, false, pos, sym, ap, ◌∙◌, arith}
+use Rattle.std.proofs.Common.{◌≡◌, ℕ, ◌+◌, ◌-◌, ◌%◌, ◌<◌, true, false, pos, ap, ◌∙◌, arith}
 use Rattle.algebra.proofs.Cong.{cong_refl}
-use Rattle.sweeps.specs.Mixing.{mixed}
 use Rattle.sweeps.proofs.Mixes.{mix_word, added_back}
 use Rattle.sweeps.proofs.rotation.mix.Goals as goal
 use Rattle.sweeps.proofs.rotation.mix.Goals.{then-back, else-back}

@@ -1,4 +1,4 @@
-use Rattle.std.proofs.Common.{◌≡◌, ℕ, ◌+◌, ◌%◌, length, sym, ap, ◌∙◌, arith}
+use Rattle.std.proofs.Common.{◌≡◌, ℕ, ◌+◌, ◌%◌, length, ap, ◌∙◌}
 use native.Mathlib.Nat.{mod-mod}
 use Rattle.algebra.specs.Sweeps.{stepped}
 use Rattle.algebra.specs.Words.{coeffs, words}

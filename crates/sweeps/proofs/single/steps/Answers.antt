@@ -1,4 +1,4 @@
-use Rattle.std.proofs.Common.{◌≡◌, ℕ, ◌*◌, ◌<◌, length, refl, arith}
+use Rattle.std.proofs.Common.{◌*◌, refl, arith}
 use Rattle.sweeps.proofs.Rows.{row_ends}
 use Rattle.sweeps.proofs.Walks.{key_ends, single_none, single_more, single_all}
 use Rattle.sweeps.proofs.single.steps.Goals as goal

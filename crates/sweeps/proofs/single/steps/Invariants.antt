@@ -1,4 +1,4 @@
-use Rattle.std.proofs.Common.{◌≡◌, ℕ, ◌*◌}
+use Rattle.std.proofs.Common.{◌≡◌, ◌*◌}
 use Rattle.kernels.specs.Polynomials.{InRing}
 use Rattle.sweeps.specs.Forms.{read_rows}
 use Rattle.sweeps.specs.Steps.{single_steps}

@@ -1,6 +1,5 @@
-use Rattle.std.proofs.Common.{◌≡◌, ℕ, ◌+◌, ◌*◌, ◌/◌, ◌%◌, ◌<◌, length, sym, ap, ◌∙◌, subst, arith}
+use Rattle.std.proofs.Common.{ℕ, ap, ◌∙◌, arith}
 use Rattle.algebra.specs.Gates.{beginning}
-use Rattle.sweeps.specs.Meaning.{turns}
 use Rattle.gate.proofs.Sets.{circle}
 use Rattle.gate.proofs.Turned.{beginning_rest}
 use Rattle.gate.proofs.stages.start.begin.Goals as goal

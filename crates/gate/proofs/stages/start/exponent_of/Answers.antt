@@ -1,6 +1,4 @@
-use Rattle.std.proofs.Common.{◌≡◌, ℕ, ◌+◌, ◌*◌, ◌/◌, ◌%◌, ◌<◌, sym, ap, ◌∙◌, subst, ap₂, mod-lt, arith}
-use native.Mathlib.Nat.{mul-lt-mul_of_pos_left}
-use Rattle.set.specs.declared.within.Within.{Within}
+use Rattle.std.proofs.Common.{ℕ, ◌+◌, ◌*◌, ◌/◌, ◌%◌, ◌<◌, sym, subst, ap₂}
 use Rattle.gate.proofs.Sets.{turn_below}
 use Rattle.gate.proofs.stages.start.exponent_of.Goals as goal
 

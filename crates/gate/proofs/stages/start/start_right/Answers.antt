@@ -1,4 +1,4 @@
-use Rattle.std.proofs.Common.{◌≡◌, ℕ, ◌<◌, List, length, get_or, set, sym, ap, ◌∙◌, subst, arith, rules}
+use Rattle.std.proofs.Common.{ℕ, ◌<◌, List, get_or, set, sym, ap, ◌∙◌, arith}
 use Rattle.algebra.specs.Gates.{beginning}
 use Rattle.kernels.specs.Polynomials.{reduced}
 use Rattle.sweeps.specs.Forms.{read_rows}

@@ -1,4 +1,4 @@
-use Rattle.std.proofs.Common.{◌≡◌, ℕ, ◌+◌, ◌*◌, ◌%◌, ◌^◌, ◌<◌, sym, ap, ◌∙◌, subst, ap₂, arith}
+use Rattle.std.proofs.Common.{ℕ, ◌+◌, ◌*◌, ◌%◌, ◌^◌, sym, ap, ◌∙◌, ap₂, arith}
 use Rattle.words.specs.declared.gadget.Gadget.{Gadget}
 use Rattle.gate.proofs.Sets.{divides}
 use Rattle.gate.proofs.stages.switch.switch_right.Goals as goal
