@@ -104,18 +104,18 @@ abbrev pub refuse_op : Numbers → State → Op → Option Fault
 refuse_op m s op = or_else (bad_memory 0 m s) (bad_registers s (named op) (used op))
 
 -- the marks and the words that it leaves
-abbrev pub marksOp : List Bool → Op → List Bool
-marksOp marks (Invert x z) = slice_set marks z true
-marksOp marks (Copy x z) = slice_set marks z true
-marksOp marks (Clear z) = slice_set marks z false
+abbrev pub marks_op : List Bool → Op → List Bool
+marks_op marks (Invert x z) = slice_set marks z true
+marks_op marks (Copy x z) = slice_set marks z true
+marks_op marks (Clear z) = slice_set marks z false
 
-abbrev pub wordsOp : Numbers → List ℕ → Op → List ℕ
-wordsOp m ws (Invert x z) = put_row m z ws (opposite m (row_at (wide m) x ws))
-wordsOp m ws (Copy x z) = put_row m z ws (remainders m (row_at (wide m) x ws))
-wordsOp m ws (Clear z) = ws
+abbrev pub words_op : Numbers → List ℕ → Op → List ℕ
+words_op m ws (Invert x z) = put_row m z ws (opposite m (row_at (wide m) x ws))
+words_op m ws (Copy x z) = put_row m z ws (remainders m (row_at (wide m) x ws))
+words_op m ws (Clear z) = ws
 
 abbrev pub done_op : Numbers → State → Op → State
-done_op m s op = record { count = s.count; marks = marksOp s.marks op; words = wordsOp m s.words op }
+done_op m s op = record { count = s.count; marks = marks_op s.marks op; words = words_op m s.words op }
 
-abbrev pub nextOp : Numbers → State → Op → State
-nextOp m s op = either (refuse_op m s op) s (done_op m s op)
+abbrev pub next_op : Numbers → State → Op → State
+next_op m s op = either (refuse_op m s op) s (done_op m s op)

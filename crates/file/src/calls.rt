@@ -2,7 +2,7 @@ ghost use Rattle.std.specs.Prelude.{◌≡◌, ◌*◌, length, replicate, IfOk}
 ghost use Rattle.faults.specs.Least.{refusal, told};
 ghost use Rattle.file.specs.Marks.{state_of};
 ghost use Rattle.file.specs.Registers.{numbers_of, wide};
-ghost use Rattle.file.specs.Steps.{either, fresh, refuse_new, refuse_place, next_place, refuse_read, read_out, refuse_op, nextOp};
+ghost use Rattle.file.specs.Steps.{either, fresh, refuse_new, refuse_place, next_place, refuse_read, read_out, refuse_op, next_op};
 ghost use Rattle.file.specs.Wrong.{LeastNew, LeastPlace, LeastRead, LeastOp};
 
 use crate::file::File;
@@ -57,7 +57,7 @@ impl File {
     // Writes the words of x to z, by remainders, and marks z.
     pub fn copy(&mut self, set: &Set, x: u32, z: u32, regs: &mut [u16]) -> Result<(), Fault>
         ensures answer { result ≡ told (refuse_op (numbers_of set.now) (state_of self.old regs.old) (Op.Copy x z)) }
-        ensures state { state_of self.new regs.new ≡ nextOp (numbers_of set.now) (state_of self.old regs.old) (Op.Copy x z) }
+        ensures state { state_of self.new regs.new ≡ next_op (numbers_of set.now) (state_of self.old regs.old) (Op.Copy x z) }
         ensures least { LeastOp (numbers_of set.now) (state_of self.old regs.old) (Op.Copy x z) }
     {
         if let Some(fault) = refuse_op(set, self, Op::Copy { x, z }, regs) {
@@ -71,7 +71,7 @@ impl File {
     // Takes the mark of z off, and leaves its words.
     pub fn clear(&mut self, set: &Set, z: u32, regs: &mut [u16]) -> Result<(), Fault>
         ensures answer { result ≡ told (refuse_op (numbers_of set.now) (state_of self.old regs.old) (Op.Clear z)) }
-        ensures state { state_of self.new regs.new ≡ nextOp (numbers_of set.now) (state_of self.old regs.old) (Op.Clear z) }
+        ensures state { state_of self.new regs.new ≡ next_op (numbers_of set.now) (state_of self.old regs.old) (Op.Clear z) }
         ensures least { LeastOp (numbers_of set.now) (state_of self.old regs.old) (Op.Clear z) }
     {
         if let Some(fault) = refuse_op(set, self, Op::Clear { z }, regs) {
@@ -84,7 +84,7 @@ impl File {
     // Writes the words of the opposite bit of x to z, and marks z.
     pub fn invert(&mut self, set: &Set, x: u32, z: u32, regs: &mut [u16]) -> Result<(), Fault>
         ensures answer { result ≡ told (refuse_op (numbers_of set.now) (state_of self.old regs.old) (Op.Invert x z)) }
-        ensures state { state_of self.new regs.new ≡ nextOp (numbers_of set.now) (state_of self.old regs.old) (Op.Invert x z) }
+        ensures state { state_of self.new regs.new ≡ next_op (numbers_of set.now) (state_of self.old regs.old) (Op.Invert x z) }
         ensures least { LeastOp (numbers_of set.now) (state_of self.old regs.old) (Op.Invert x z) }
     {
         if let Some(fault) = refuse_op(set, self, Op::Invert { x, z }, regs) {

@@ -7,7 +7,7 @@ use Rattle.file.specs.declared.op.Op.{Op}
 use Rattle.file.specs.declared.op.Op.TheVariants.{Invert, Copy, Clear}
 use Rattle.file.specs.Registers.{wide, row_at, put_row, remainders, opposite, first_high}
 use Rattle.file.specs.Marks.{State}
-use Rattle.file.specs.Steps.{either, done_place, refuse_place, next_place, refuse_read, named, used, done_op, refuse_op, nextOp}
+use Rattle.file.specs.Steps.{either, done_place, refuse_place, next_place, refuse_read, named, used, done_op, refuse_op, next_op}
 use Rattle.file.proofs.Accepted.{Ready, place_accepted, op_accepted}
 use Rattle.file.proofs.Memory.{row_fits, put_long}
 use Rattle.file.proofs.Opposite.{opposite_long, remainders_long}
@@ -95,7 +95,7 @@ module _ (m : Numbers) (s t : State) (a : Alike s t) where
       }
   done (Clear z) p q = record { counts = a.counts; marked = ap (λ (l : List Bool). set l z false) a.marked; lengths = a.lengths }
 
-  operated : (op : Op) → Alike (nextOp m s op) (nextOp m t op)
+  operated : (op : Op) → Alike (next_op m s op) (next_op m t op)
   operated op =
       either_way (done_op m s op) (done_op m t op) (refuse_op m s op) (refuse_op m t op) (operates op)
       (λ e f. done op (op_accepted m s op e) (op_accepted m t op f))

@@ -11,11 +11,11 @@ use Rattle.file.specs.declared.op.Op.{Op}
 use Rattle.file.specs.declared.op.Op.TheVariants.{Invert, Copy, Clear}
 use Rattle.file.specs.Registers.{wide, row_at, put_row, remainders, opposite}
 use Rattle.file.specs.Marks.{State}
-use Rattle.file.specs.Steps.{either, bad_memory, bad_length, bad_registers, done_place, refuse_place, next_place, refuse_read, named, used, done_op, refuse_op, nextOp}
+use Rattle.file.specs.Steps.{either, bad_memory, bad_length, bad_registers, done_place, refuse_place, next_place, refuse_read, named, used, done_op, refuse_op, next_op}
 use Rattle.file.proofs.Accepted.{Ready, place_accepted, op_accepted}
 use Rattle.file.proofs.Memory.{row_fits, put_long}
 use Rattle.file.proofs.Opposite.{opposite_long, remainders_long}
-use Rattle.runs.specs.Plain.{Entries, the_bit, first_row, row7, row10, row11, row12, plain_place, plain_read, plain_op, entered, unless_refused, bitsPlace, bits_op}
+use Rattle.runs.specs.Plain.{Entries, the_bit, first_row, row7, row10, row11, row12, plain_place, plain_read, plain_op, entered, unless_refused, bits_place, bits_op}
 use Rattle.runs.specs.Followed.{Tracks, PlainFollows}
 use Rattle.runs.proofs.Lowest.{row10_same, row11_same, row12_same}
 
@@ -82,7 +82,7 @@ module _ (m : Numbers) (s : State) (bits : Entries) (t : Tracks m s bits) where
         same = ap (λ (l : List Bool). set l z true) t.same ∙ sym (map-set (is_some {T = Bool}) bits z (Some bit));
       }
 
-  pub placed : (z : ℕ) (ws : List ℕ) (bit : Bool) → Tracks m (next_place m s z ws) (bitsPlace (wide m) m.small s.count bits z ws bit)
+  pub placed : (z : ℕ) (ws : List ℕ) (bit : Bool) → Tracks m (next_place m s z ws) (bits_place (wide m) m.small s.count bits z ws bit)
   placed z ws bit =
       either_way (done_place m s z ws) (set bits z (Some bit)) (refuse_place m s z ws) (plain_place (wide m) m.small s.count z ws) (places z ws)
       (λ e. (let a = place_accepted m s z ws e in put_on z ws bit (a.ready.low z (inl refl)) a.long))
@@ -99,7 +99,7 @@ module _ (m : Numbers) (s : State) (bits : Entries) (t : Tracks m s bits) where
         same = ap (λ (l : List Bool). set l z false) t.same ∙ sym (map-set (is_some {T = Bool}) bits z None);
       }
 
-  pub operated : (op : Op) → Tracks m (nextOp m s op) (bits_op s.count bits op)
+  pub operated : (op : Op) → Tracks m (next_op m s op) (bits_op s.count bits op)
   operated op =
       either_way (done_op m s op) (entered bits op) (refuse_op m s op) (plain_op s.count bits op) (operates op) (λ e. done op (op_accepted m s op e))
 

@@ -13,11 +13,11 @@ use Rattle.file.specs.declared.op.Op.{Op}
 use Rattle.file.specs.declared.op.Op.TheVariants.{Invert, Copy, Clear}
 use Rattle.file.specs.Registers.{wide, row_at, put_row, remainders, opposite}
 use Rattle.file.specs.Marks.{State}
-use Rattle.file.specs.Steps.{either, done_place, refuse_place, next_place, refuse_read, words_read, named, used, done_op, refuse_op, nextOp}
+use Rattle.file.specs.Steps.{either, done_place, refuse_place, next_place, refuse_read, words_read, named, used, done_op, refuse_op, next_op}
 use Rattle.file.proofs.Accepted.{Ready, place_accepted, read_accepted, op_accepted}
 use Rattle.file.proofs.Memory.{row_fits, put_same, put_other}
 use Rattle.file.proofs.Opposite.{opposite_long, remainders_long}
-use Rattle.runs.specs.Plain.{Entries, the_bit, plain_place, plain_op, entered, unless_refused, bitsPlace, bits_op}
+use Rattle.runs.specs.Plain.{Entries, the_bit, plain_place, plain_op, entered, unless_refused, bits_place, bits_op}
 use Rattle.runs.specs.Followed.{Tracks}
 use Rattle.runs.specs.Held.{HoldsBit, Held, BitsHeld}
 use Rattle.runs.proofs.Lowest.{marks_at}
@@ -27,8 +27,8 @@ no_entry : {A : Type 0} (b : Bool) (o : Option Bool) → o ≡ None → o ≡ So
 no_entry b o e h = absurd (let z : ◌≡◌ {A = ℕ} 0 1 = cc in omega arith)
 
 -- remainders hold what the words hold
-remainders-hold : (m : Numbers) (secret : ℕ → ℕ) (b : Bool) (ws : List ℕ) → 0 < m.small → HoldsBit m secret b ws → HoldsBit m secret b (remainders m ws)
-remainders-hold m secret b ws some h =
+remainders_hold : (m : Numbers) (secret : ℕ → ℕ) (b : Bool) (ws : List ℕ) → 0 < m.small → HoldsBit m secret b ws → HoldsBit m secret b (remainders m ws)
+remainders_hold m secret b ws some h =
     record {
       noise = h.noise;
       is = cong_trans m.small
@@ -39,9 +39,9 @@ remainders-hold m secret b ws some h =
     }
 
 -- the opposite words hold the opposite bit
-opposite-holds : (m : Numbers) (secret : ℕ → ℕ) (b : Bool) (ws : List ℕ) → 0 < m.small → HoldsBit m secret b ws → HoldsBit m secret (not b) (opposite m ws)
-opposite-holds m secret true ws some h = invert_holds m.dimension m.small m.bound 1 (λ j. pos (secret j)) ws some (omega arith) h
-opposite-holds m secret false ws some h = invert_holds m.dimension m.small m.bound 0 (λ j. pos (secret j)) ws some (omega arith) h
+opposite_holds : (m : Numbers) (secret : ℕ → ℕ) (b : Bool) (ws : List ℕ) → 0 < m.small → HoldsBit m secret b ws → HoldsBit m secret (not b) (opposite m ws)
+opposite_holds m secret true ws some h = invert_holds m.dimension m.small m.bound 1 (λ j. pos (secret j)) ws some (omega arith) h
+opposite_holds m secret false ws some h = invert_holds m.dimension m.small m.bound 0 (λ j. pos (secret j)) ws some (omega arith) h
 
 -- an entry that is not empty
 entry_of : (o : Option Bool) → is_some o ≡ true → o ≡ Some (the_bit o)
@@ -82,7 +82,7 @@ module _ (m : Numbers) (secret : ℕ → ℕ) (s : State) (bits : Entries) (t : 
       ]
 
   placed : (z : ℕ) (ws : List ℕ) (bit : Bool) → (refuse_place m s z ws ≡ None → HoldsBit m secret bit ws)
-      → Held m secret (next_place m s z ws) (bitsPlace (wide m) m.small s.count bits z ws bit)
+      → Held m secret (next_place m s z ws) (bits_place (wide m) m.small s.count bits z ws bit)
   placed z ws bit holds =
       either_way (done_place m s z ws) (set bits z (Some bit)) (refuse_place m s z ws) (plain_place (wide m) m.small s.count z ws) (places m s bits t z ws)
       (λ e. (let a = place_accepted m s z ws e in put_on z ws bit (set s.marks z true) (a.ready.low z (inl refl)) a.long (holds e)))
@@ -98,14 +98,14 @@ module _ (m : Numbers) (secret : ℕ → ℕ) (s : State) (bits : Entries) (t : 
   done some (Invert x z) a =
       put_on z (opposite m (row_at (wide m) x s.words)) (not (the_bit (get_or bits x None))) (set s.marks z true) (a.low z (inr (inl refl)))
       (opposite_long m (row_at (wide m) x s.words))
-      (opposite-holds m secret (the_bit (get_or bits x None)) (row_at (wide m) x s.words) some (full_held x (a.low x (inl refl)) (a.full x (inl refl))))
+      (opposite_holds m secret (the_bit (get_or bits x None)) (row_at (wide m) x s.words) some (full_held x (a.low x (inl refl)) (a.full x (inl refl))))
   done some (Copy x z) a =
       put_on z (remainders m (row_at (wide m) x s.words)) (the_bit (get_or bits x None)) (set s.marks z true) (a.low z (inr (inl refl)))
       (remainders_long m (row_at (wide m) x s.words))
-      (remainders-hold m secret (the_bit (get_or bits x None)) (row_at (wide m) x s.words) some (full_held x (a.low x (inl refl)) (a.full x (inl refl))))
+      (remainders_hold m secret (the_bit (get_or bits x None)) (row_at (wide m) x s.words) some (full_held x (a.low x (inl refl)) (a.full x (inl refl))))
   done some (Clear z) a = cleared z (a.low z (inl refl))
 
-  operated : 0 < m.small → (op : Op) → Held m secret (nextOp m s op) (bits_op s.count bits op)
+  operated : 0 < m.small → (op : Op) → Held m secret (next_op m s op) (bits_op s.count bits op)
   operated some op =
       either_way (done_op m s op) (entered bits op) (refuse_op m s op) (plain_op s.count bits op) (operates m s bits t op)
       (λ e. done some op (op_accepted m s op e))
@@ -118,17 +118,17 @@ module _ (m : Numbers) (secret : ℕ → ℕ) (s : State) (bits : Entries) (t : 
         the_bit (get_or bits x None),
         (
           full_entry x f,
-          remainders-hold m secret (the_bit (get_or bits x None)) (row_at (wide m) x s.words) some (full_held x (a.ready.low x (inl refl)) f),
+          remainders_hold m secret (the_bit (get_or bits x None)) (row_at (wide m) x s.words) some (full_held x (a.ready.low x (inl refl)) f),
         ),
       )
 
-nothing-held : (count x : ℕ) (b : Bool) → x < count → get_or (replicate count None) x None ≡ Some b → ⊥
-nothing-held count x b l e = no_entry b (get_or (replicate count None) x None) (get_or-replicate count x None None l) e
+nothing_held : (count x : ℕ) (b : Bool) → x < count → get_or (replicate count None) x None ≡ Some b → ⊥
+nothing_held count x b l e = no_entry b (get_or (replicate count None) x None) (get_or-replicate count x None None l) e
 
-pub bits-held : BitsHeld
-bits-held =
+pub bits_held : BitsHeld
+bits_held =
     record {
-      begins = λ m secret count x b l e. absurd (nothing-held count x b l e);
+      begins = λ m secret count x b l e. absurd (nothing_held count x b l e);
       placed = λ m secret s bits t h. placed m secret s bits t h;
       operated = λ m secret s bits some t h. operated m secret s bits t h some;
       read = λ m secret s bits some t h. read m secret s bits t h some;

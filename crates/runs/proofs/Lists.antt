@@ -5,14 +5,14 @@ use Rattle.set.specs.declared.numbers.Numbers.{Numbers}
 use Rattle.file.specs.declared.op.Op.{Op}
 use Rattle.file.specs.Registers.{wide}
 use Rattle.file.specs.Marks.{State}
-use Rattle.file.specs.Steps.{either, fresh, refuse_place, next_place, done_place, refuse_op, nextOp, done_op}
+use Rattle.file.specs.Steps.{either, fresh, refuse_place, next_place, done_place, refuse_op, next_op, done_op}
 use Rattle.runs.specs.Plain.{Entries}
 use Rattle.runs.specs.Followed.{Tracks}
 use Rattle.runs.specs.Held.{Held}
 use Rattle.runs.specs.Shapes.{shape_of, Alike}
 use Rattle.runs.specs.Lists.{Asked, placing, reading, doing, shape, answer, next, answers, left, plain_answer, plain_next, plain_answers, plain_left, Sound, AllSound, ReadRight, AllReadRight, EveryList}
 use Rattle.runs.proofs.Followed.{plain_follows}
-use Rattle.runs.proofs.Held.{bits-held}
+use Rattle.runs.proofs.Held.{bits_held}
 use Rattle.runs.proofs.Blind.{words_decide_nothing_lem}
 
 -- R stays
@@ -20,10 +20,10 @@ either_count : (r : Option Fault) (s d : State) → d.count ≡ s.count → (eit
 either_count None s d e = e
 either_count (Some f) s d e = refl
 
-count-stays : (m : Numbers) (s : State) (c : Asked) → (next m s c).count ≡ s.count
-count-stays m s (placing z ws) = either_count (refuse_place m s z ws) s (done_place m s z ws) refl
-count-stays m s (reading x have) = refl
-count-stays m s (doing op) = either_count (refuse_op m s op) s (done_op m s op) refl
+count_stays : (m : Numbers) (s : State) (c : Asked) → (next m s c).count ≡ s.count
+count_stays m s (placing z ws) = either_count (refuse_place m s z ws) s (done_place m s z ws) refl
+count_stays m s (reading x have) = refl
+count_stays m s (doing op) = either_count (refuse_op m s op) s (done_op m s op) refl
 
 module _ (m : Numbers) (bit_of : List ℕ → Bool) where
   one_answer : (s : State) (bits : Entries) → Tracks m s bits → (c : Asked) → answer m s c ≡ plain_answer bit_of (wide m) m.small s.count bits c
@@ -48,22 +48,22 @@ module _ (m : Numbers) (bit_of : List ℕ → Bool) where
         let here : answer m s c ≡ plain_answer bit_of (wide m) m.small R bits c =
         subst (λ (k : ℕ). answer m s c ≡ plain_answer bit_of (wide m) m.small k bits c) e (one_answer s bits t c) in
         let more : answers m (next m s c) cs ≡ plain_answers bit_of (wide m) m.small R (plain_next bit_of (wide m) m.small R bits c) cs =
-        all_answers (next m s c) (plain_next bit_of (wide m) m.small R bits c) (count-stays m s c ∙ e) (step-at s bits e t c) cs in
+        all_answers (next m s c) (plain_next bit_of (wide m) m.small R bits c) (count_stays m s c ∙ e) (step-at s bits e t c) cs in
         cc
 
     all-tracked : (s : State) (bits : Entries) → s.count ≡ R → Tracks m s bits → (cs : List Asked)
         → Tracks m (left m s cs) (plain_left bit_of (wide m) m.small R bits cs)
     all-tracked s bits e t [] = t
     all-tracked s bits e t (c ∷ cs) =
-        all-tracked (next m s c) (plain_next bit_of (wide m) m.small R bits c) (count-stays m s c ∙ e) (step-at s bits e t c) cs
+        all-tracked (next m s c) (plain_next bit_of (wide m) m.small R bits c) (count_stays m s c ∙ e) (step-at s bits e t c) cs
 
     -- what is held
     module _ (secret : ℕ → ℕ) (some : 0 < m.small) where
       hold-step : (s : State) (bits : Entries) → Tracks m s bits → Held m secret s bits → (c : Asked) → Sound m secret bit_of s c
           → Held m secret (next m s c) (plain_next bit_of (wide m) m.small s.count bits c)
-      hold-step s bits t h (placing z ws) sound = bits-held.placed m secret s bits t h z ws (bit_of ws) sound
+      hold-step s bits t h (placing z ws) sound = bits_held.placed m secret s bits t h z ws (bit_of ws) sound
       hold-step s bits t h (reading x have) sound = h
-      hold-step s bits t h (doing op) sound = bits-held.operated m secret s bits some t h op
+      hold-step s bits t h (doing op) sound = bits_held.operated m secret s bits some t h op
 
       hold_at : (s : State) (bits : Entries) → s.count ≡ R → Tracks m s bits → Held m secret s bits → (c : Asked) → Sound m secret bit_of s c
           → Held m secret (next m s c) (plain_next bit_of (wide m) m.small R bits c)
@@ -74,13 +74,13 @@ module _ (m : Numbers) (bit_of : List ℕ → Bool) where
           → Held m secret (left m s cs) (plain_left bit_of (wide m) m.small R bits cs)
       all_held s bits e t h [] sound = h
       all_held s bits e t h (c ∷ cs) sound =
-          all_held (next m s c) (plain_next bit_of (wide m) m.small R bits c) (count-stays m s c ∙ e) (step-at s bits e t c)
+          all_held (next m s c) (plain_next bit_of (wide m) m.small R bits c) (count_stays m s c ∙ e) (step-at s bits e t c)
           (hold_at s bits e t h c sound.0) cs sound.1
 
   module _ (secret : ℕ → ℕ) (some : 0 < m.small) where
     read_right : (s : State) (bits : Entries) → Tracks m s bits → Held m secret s bits → (c : Asked) → ReadRight m secret bit_of s bits c
     read_right s bits t h (placing z ws) = tt
-    read_right s bits t h (reading x have) = bits-held.read m secret s bits some t h x have
+    read_right s bits t h (reading x have) = bits_held.read m secret s bits some t h x have
     read_right s bits t h (doing op) = tt
 
     all_read : (s : State) (bits : Entries) → Tracks m s bits → Held m secret s bits → (cs : List Asked) → AllSound m secret bit_of s cs
@@ -110,7 +110,7 @@ module _ (m : Numbers) where
       (words_decide_nothing_lem.reads m s t a x have ∙ ap (λ (k : ℕ). answer m t (reading k have)) i ∙ ap (λ (k : ℕ). answer m t (reading y k)) h, a)
   same_step s t a (doing op) (doing other) e =
       let i : op ≡ other = cc in
-      subst (λ (k : Op). (refuse_op m s op ≡ refuse_op m t k) × Alike (nextOp m s op) (nextOp m t k)) i
+      subst (λ (k : Op). (refuse_op m s op ≡ refuse_op m t k) × Alike (next_op m s op) (next_op m t k)) i
       (words_decide_nothing_lem.operates m s t a op, words_decide_nothing_lem.operated m s t a op)
   same_step s t a (placing z ws) (reading y got) e = no_shape (cc)
   same_step s t a (placing z ws) (doing other) e = no_shape (cc)
@@ -131,13 +131,13 @@ module _ (m : Numbers) where
       let more : answers m (next m s c) cs ≡ answers m (next m t d) ds = same_answers (next m s c) (next m t d) p.1 cs ds rest in
       cc
 
-pub every-list : EveryList
-every-list m R =
+pub every_list : EveryList
+every_list m R =
     let begun = plain_follows.begins m R in
     record {
       followed = λ bit_of cs. all_answers m bit_of R (fresh m R) (replicate R None) refl begun cs;
       filled = λ bit_of cs. all-tracked m bit_of R (fresh m R) (replicate R None) refl begun cs;
-      held = λ secret bit_of some cs sound. all_held m bit_of R secret some (fresh m R) (replicate R None) refl begun (bits-held.begins m secret R) cs sound;
-      given = λ secret bit_of some cs sound. all_read m bit_of secret some (fresh m R) (replicate R None) begun (bits-held.begins m secret R) cs sound;
+      held = λ secret bit_of some cs sound. all_held m bit_of R secret some (fresh m R) (replicate R None) refl begun (bits_held.begins m secret R) cs sound;
+      given = λ secret bit_of some cs sound. all_read m bit_of secret some (fresh m R) (replicate R None) begun (bits_held.begins m secret R) cs sound;
       blind = λ cs ds e. same_answers m (fresh m R) (fresh m R) (record { counts = refl; marked = refl; lengths = refl }) cs ds e;
     }

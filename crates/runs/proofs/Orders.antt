@@ -64,15 +64,15 @@ module _ (m : Numbers) (R : ℕ) where
   agree_at : (s : State) (bits : Entries) → Tracked s bits → (op : Op) → refuse_op m s op ≡ plain_op R bits op
   agree_at s bits t op = subst (λ (k : ℕ). refuse_op m s op ≡ plain_op k bits op) t.1 (operates m s bits t.0 op)
 
-  on-at : (s : State) (bits : Entries) → Tracked s bits → (op : Op) → refuse_op m s op ≡ None → Tracked (done_op m s op) (entered bits op)
-  on-at s bits t op e = (done m s bits t.0 op (op_accepted m s op e), t.1)
+  on_at : (s : State) (bits : Entries) → Tracked s bits → (op : Op) → refuse_op m s op ≡ None → Tracked (done_op m s op) (entered bits op)
+  on_at s bits t op e = (done m s bits t.0 op (op_accepted m s op e), t.1)
 
 pub orders_are_calls : OrdersAreCalls
 orders_are_calls =
     record {
-      onFile = λ m s os. each_order State (refuse_op m) (done_op m) 0 s os;
-      onBits = λ R bits os. each_order Entries (plain_op R) entered 0 bits os;
+      on_file = λ m s os. each_order State (refuse_op m) (done_op m) 0 s os;
+      on_bits = λ R bits os. each_order Entries (plain_op R) entered 0 bits os;
       agree = λ m s bits t os.
-          let h = same_ending State Entries (refuse_op m) (done_op m) (plain_op s.count) entered (Tracked m s.count) (agree_at m s.count) (on-at m s.count) 0 s bits (t, refl) os in
+          let h = same_ending State Entries (refuse_op m) (done_op m) (plain_op s.count) entered (Tracked m s.count) (agree_at m s.count) (on_at m s.count) 0 s bits (t, refl) os in
           (h.counts, h.stopped, h.related.0);
     }

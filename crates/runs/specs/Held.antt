@@ -5,8 +5,8 @@ use Rattle.set.specs.declared.numbers.Numbers.{Numbers}
 use Rattle.file.specs.declared.op.Op.{Op}
 use Rattle.file.specs.Registers.{wide, row_at}
 use Rattle.file.specs.Marks.{State}
-use Rattle.file.specs.Steps.{fresh, refuse_place, next_place, refuse_read, words_read, nextOp}
-use Rattle.runs.specs.Plain.{Entries, bitsPlace, bits_op}
+use Rattle.file.specs.Steps.{fresh, refuse_place, next_place, refuse_read, words_read, next_op}
+use Rattle.runs.specs.Plain.{Entries, bits_place, bits_op}
 use Rattle.runs.specs.Followed.{Tracks}
 
 -- a bit as a number
@@ -29,8 +29,8 @@ pub record BitsHeld : Type 0 where
   pub begins : (m : Numbers) (secret : ℕ → ℕ) (count : ℕ) → Held m secret (fresh m count) (replicate count None)
   pub placed : (m : Numbers) (secret : ℕ → ℕ) (s : State) (bits : Entries) → Tracks m s bits → Held m secret s bits
       → (z : ℕ) (ws : List ℕ) (bit : Bool) → (refuse_place m s z ws ≡ None → HoldsBit m secret bit ws)
-      → Held m secret (next_place m s z ws) (bitsPlace (wide m) m.small s.count bits z ws bit)
+      → Held m secret (next_place m s z ws) (bits_place (wide m) m.small s.count bits z ws bit)
   pub operated : (m : Numbers) (secret : ℕ → ℕ) (s : State) (bits : Entries) → 0 < m.small → Tracks m s bits → Held m secret s bits
-      → (op : Op) → Held m secret (nextOp m s op) (bits_op s.count bits op)
+      → (op : Op) → Held m secret (next_op m s op) (bits_op s.count bits op)
   pub read : (m : Numbers) (secret : ℕ → ℕ) (s : State) (bits : Entries) → 0 < m.small → Tracks m s bits → Held m secret s bits
       → (x have : ℕ) → refuse_read m s x have ≡ None → (b : Bool) × ((slice_index_or bits x None ≡ Some b) × HoldsBit m secret b (words_read m s x))

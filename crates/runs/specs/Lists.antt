@@ -5,8 +5,8 @@ use Rattle.set.specs.declared.numbers.Numbers.{Numbers}
 use Rattle.file.specs.declared.op.Op.{Op}
 use Rattle.file.specs.Registers.{wide}
 use Rattle.file.specs.Marks.{State}
-use Rattle.file.specs.Steps.{fresh, refuse_place, next_place, refuse_read, words_read, refuse_op, nextOp}
-use Rattle.runs.specs.Plain.{Entries, plain_place, plain_read, plain_op, bitsPlace, bits_op}
+use Rattle.file.specs.Steps.{fresh, refuse_place, next_place, refuse_read, words_read, refuse_op, next_op}
+use Rattle.runs.specs.Plain.{Entries, plain_place, plain_read, plain_op, bits_place, bits_op}
 use Rattle.runs.specs.Followed.{Tracks}
 use Rattle.runs.specs.Held.{HoldsBit, Held}
 use Rattle.runs.specs.Shapes.{shape_of}
@@ -38,7 +38,7 @@ module _ (m : Numbers) where
   abbrev pub next : State → Asked → State
   next s (placing z ws) = next_place m s z ws
   next s (reading x have) = s
-  next s (doing op) = nextOp m s op
+  next s (doing op) = next_op m s op
 
   abbrev pub answers : State → List Asked → List (Option Fault)
   answers s [] = []
@@ -56,7 +56,7 @@ module _ (bit_of : List ℕ → Bool) (w q R : ℕ) where
   plain_answer bits (doing op) = plain_op R bits op
 
   abbrev pub plain_next : Entries → Asked → Entries
-  plain_next bits (placing z ws) = bitsPlace w q R bits z ws (bit_of ws)
+  plain_next bits (placing z ws) = bits_place w q R bits z ws (bit_of ws)
   plain_next bits (reading x have) = bits
   plain_next bits (doing op) = bits_op R bits op
 

@@ -60,9 +60,9 @@ module _ (S : Type 0) (refuse : S → Op → Option Fault) (carried : S → Op �
 
 -- so it is on the file and on the machine of plain bits, and both give one answer
 pub record OrdersAreCalls : Type 0 where
-  pub onFile : (m : Numbers) (s : State) (os : List (Option Op))
+  pub on_file : (m : Numbers) (s : State) (os : List (Option Op))
       → Calls State (refuse_op m) (done_op m) 0 s os (ordered State (refuse_op m) (done_op m) 0 s os)
-  pub onBits : (R : ℕ) (bits : Entries) (os : List (Option Op))
+  pub on_bits : (R : ℕ) (bits : Entries) (os : List (Option Op))
       → Calls Entries (plain_op R) entered 0 bits os (ordered Entries (plain_op R) entered 0 bits os)
   pub agree : (m : Numbers) (s : State) (bits : Entries) → Tracks m s bits → (os : List (Option Op))
       → ((ordered State (refuse_op m) (done_op m) 0 s os).count ≡ (ordered Entries (plain_op s.count) entered 0 bits os).count)

@@ -80,8 +80,8 @@ abbrev pub unless_refused : Option Fault → Entries → Entries → Entries
 unless_refused (Some f) old new = old
 unless_refused None old new = new
 
-abbrev pub bitsPlace : ℕ → ℕ → ℕ → Entries → ℕ → List ℕ → Bool → Entries
-bitsPlace w q R bits z ws bit = unless_refused (plain_place w q R z ws) bits (slice_set bits z (Some bit))
+abbrev pub bits_place : ℕ → ℕ → ℕ → Entries → ℕ → List ℕ → Bool → Entries
+bits_place w q R bits z ws bit = unless_refused (plain_place w q R z ws) bits (slice_set bits z (Some bit))
 
 abbrev pub bits_op : ℕ → Entries → Op → Entries
 bits_op R bits op = unless_refused (plain_op R bits op) bits (entered bits op)

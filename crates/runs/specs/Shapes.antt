@@ -3,7 +3,7 @@ use Rattle.std.specs.Prelude.{◌≡◌, ℕ, cond, List, map, length, Some, Non
 use Rattle.set.specs.declared.numbers.Numbers.{Numbers}
 use Rattle.file.specs.declared.op.Op.{Op}
 use Rattle.file.specs.Marks.{State}
-use Rattle.file.specs.Steps.{refuse_place, next_place, refuse_read, refuse_op, nextOp}
+use Rattle.file.specs.Steps.{refuse_place, next_place, refuse_read, refuse_op, next_op}
 
 -- a word below q is blank
 abbrev pub blank : ℕ → ℕ → Option ℕ
@@ -26,4 +26,4 @@ pub record WordsDecideNothing : Type 0 where
       → Alike (next_place m s z ws) (next_place m t z vs)
   pub reads : (m : Numbers) (s t : State) → Alike s t → (x have : ℕ) → refuse_read m s x have ≡ refuse_read m t x have
   pub operates : (m : Numbers) (s t : State) → Alike s t → (op : Op) → refuse_op m s op ≡ refuse_op m t op
-  pub operated : (m : Numbers) (s t : State) → Alike s t → (op : Op) → Alike (nextOp m s op) (nextOp m t op)
+  pub operated : (m : Numbers) (s t : State) → Alike s t → (op : Op) → Alike (next_op m s op) (next_op m t op)

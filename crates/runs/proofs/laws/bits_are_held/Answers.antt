@@ -1,5 +1,5 @@
-use Rattle.runs.proofs.Held.{bits-held}
+use Rattle.runs.proofs.Held.{bits_held}
 use Rattle.runs.proofs.laws.bits_are_held.Goals as goal
 
 pub returns : goal.returns
-returns c = bits-held
+returns c = bits_held

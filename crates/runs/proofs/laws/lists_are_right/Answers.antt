@@ -1,5 +1,5 @@
-use Rattle.runs.proofs.Lists.{every-list}
+use Rattle.runs.proofs.Lists.{every_list}
 use Rattle.runs.proofs.laws.lists_are_right.Goals as goal
 
 pub returns : goal.returns
-returns c = every-list
+returns c = every_list

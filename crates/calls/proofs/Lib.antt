@@ -1,0 +1,12 @@
+pub mod Lowest
+pub mod Followed
+pub mod Held
+pub mod Ordering
+pub mod Blind
+pub mod Follow
+pub mod Steps
+pub mod Turns
+pub mod Lending
+pub mod Pushes
+pub mod Refused
+pub mod Whole

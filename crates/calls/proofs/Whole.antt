@@ -1,0 +1,35 @@
+-- The whole law of runs, from the definitions.
+use Rattle.std.proofs.Common.{◌≡◌, ℕ, ◌*◌, List, length, ℤ, sym, ap, ◌∙◌, subst}
+use Rattle.set.specs.declared.numbers.Numbers.{Numbers}
+use Rattle.set.specs.declared.within.Within.{Within}
+use Rattle.set.specs.declared.checked.Set.{Set}
+use Rattle.sweeps.specs.Forms.{ArePolys}
+use Rattle.sweeps.specs.Meaning.{Means}
+use Rattle.gate.proofs.Holding.{gate_long}
+use Rattle.registers.specs.Registers.{numbers_of}
+use Rattle.calls.specs.declared.answer.Answer.{Answer}
+use Rattle.calls.specs.Calls.{Asked}
+use Rattle.calls.specs.Runs.{Outcome, run_of}
+use Rattle.calls.specs.Promise.{gates_of, FollowsBits, Promise}
+use Rattle.calls.proofs.Follow.{follows, gates_right}
+use Rattle.calls.proofs.Blind.{words_decide_nothing_lem}
+
+pub promised : (defined : Numbers → List ℕ → List (List ℕ) → List ℕ → List ℕ) (noise count : Within → ℕ) (message : Within → List ℤ → ℕ → List ℕ)
+    → Means defined noise count message → (set : Set) (start keys : List (List ℕ)) (rows : List ℕ)
+    → length keys ≡ count set.within * set.within.numbers.digits → ArePolys set.within.numbers.degree set.within.numbers.modulus keys
+    → (R : ℕ) (calls : List Asked) (o : Outcome) → o ≡ run_of (gates_of defined (numbers_of set) start keys rows) (numbers_of set) (count set.within) R calls
+    → Promise defined noise count message set start keys rows R calls o
+promised defined noise count message means set start keys rows long polys R calls o e =
+    let m = numbers_of set in
+    let gates = gates_of defined m start keys rows in
+    record {
+      ran = e;
+      registers_follow_bits = λ f s stated fit quiet.
+          subst (FollowsBits (numbers_of set) R s calls) (sym e)
+          (follows (gates_of defined (numbers_of set) start keys rows) set.within (count set.within) R s
+          (gates_right defined noise count message means set start keys rows long polys f s stated fit) fit.sweeps.small calls quiet);
+      words_decide_nothing = λ others h.
+          sym (words_decide_nothing_lem (gates_of defined (numbers_of set) start keys rows) (numbers_of set) (count set.within)
+          (λ l xs ys. gate_long defined (numbers_of set) l start keys rows xs ys) R calls others h)
+          ∙ ap (λ (v : Outcome). v.answers) (sym e);
+    }

@@ -1,0 +1,12 @@
+use Rattle.std.proofs.Common.{◌≡◌, ℕ, ◌+◌, ◌*◌, List, ◌++◌, map, take, drop}
+use Rattle.registers.specs.Marks.{state_of}
+use Rattle.registers.specs.Registers.{numbers_of, wide}
+use Rattle.registers.specs.Steps.{gates_by}
+use Rattle.calls.specs.Calls.{asked}
+use Rattle.calls.proofs.Pushes.{Goes}
+use Rattle.calls.proofs.run.each.Given as goal
+
+abbrev pub invariant-loop-i : goal.invariant-loop-i
+invariant-loop-i g l =
+    Goes (gates_by g.S.Sweep.defined g.K.Kernel.reads g.S.Sweep.count l.engine.set l.start l.selectors l.rows) (numbers_of l.engine.set)
+    (g.S.Sweep.count l.engine.set.within) (map asked l.calls) (state_of l.initial.file l.initial.regs) l.i (state_of l.file l.regs) l.got l.reads

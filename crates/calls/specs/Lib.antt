@@ -1,0 +1,6 @@
+pub mod Answers
+pub mod Orders
+pub mod Plain
+pub mod Calls
+pub mod Runs
+pub mod Promise

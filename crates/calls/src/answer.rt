@@ -1,0 +1,30 @@
+ghost use Rattle.std.specs.Prelude.{◌≡◌};
+ghost use Rattle.faults.specs.Least.{refusal};
+ghost use Rattle.calls.specs.Answers.{verdict};
+
+use faults::fault::Fault;
+
+// What a list of orders answers: how many ran, and what stopped it before its end.
+#[derive(Clone, Copy)]
+pub struct Ran {
+    pub orders: usize,
+    pub stop: Option<Fault>,
+}
+
+// The answer to a call.
+#[derive(Clone, Copy)]
+pub enum Answer {
+    Accepted,
+    Refused(Fault),
+    Ran(Ran),
+}
+
+// Accepted, or why not.
+pub fn verdict_of(answer: Result<(), Fault>) -> Answer
+    ensures { result ≡ verdict (refusal answer) }
+{
+    match answer {
+        Ok(()) => Answer::Accepted,
+        Err(fault) => Answer::Refused(fault),
+    }
+}

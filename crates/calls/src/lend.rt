@@ -1,0 +1,123 @@
+ghost use Rattle.std.specs.Prelude.{◌≡◌, ◌+◌, min, [], ◌∷◌, ◌++◌, length, replicate};
+ghost use Rattle.faults.specs.Least.{told};
+ghost use Rattle.gate.specs.Lengths.{start_length, selectors_length, rows_length, gate_work};
+ghost use Rattle.registers.specs.Marks.{state_of};
+ghost use Rattle.registers.specs.Registers.{numbers_of, wide};
+ghost use Rattle.registers.specs.Steps.{gates_by, either, done_op, refuse_read, words_read};
+ghost use Rattle.calls.specs.Orders.{ending};
+ghost use Rattle.calls.specs.Calls.{lent_lists, refuse_by, orders_end};
+
+use crate::act::act;
+use crate::answer::Ran;
+use crate::call::Lent;
+use crate::orders::run_orders;
+use engine::engine::Engine;
+use faults::fault::Fault;
+use registers::file::File;
+use registers::op::Op;
+use kernels::kernel::Kernel;
+use sweeps::sweep::Sweep;
+
+// As many as asked for, at most all.
+fn at_most(asked: u32, have: usize) -> usize
+    ensures { result ≡ min asked have }
+{
+    (asked as usize).min(have)
+}
+
+// An operation that is lent so much work memory.
+pub fn act_lent<K: Kernel + Drop, S: Sweep + Drop>(
+    engine: &Engine<K, S>,
+    file: &mut File,
+    op: Op,
+    lent: Lent,
+    start: &[u32],
+    selectors: &[u32],
+    rows: &[u32],
+    regs: &mut [u16],
+    small: &mut [u16],
+    work: &mut [u32],
+    scratch: &mut [u32],
+) -> Result<(), Fault>
+    requires start { length start.now ≡ start_length (numbers_of engine.now.set) }
+    requires selectors { length selectors.now ≡ selectors_length (numbers_of engine.now.set) (S.Sweep.count engine.now.set.within) }
+    requires rows { length rows.now ≡ rows_length (numbers_of engine.now.set) }
+    requires small { length small.old ≡ wide (numbers_of engine.now.set) + 1 }
+    requires work { length work.old ≡ gate_work (numbers_of engine.now.set) + 1 }
+    requires scratch { length scratch.old ≡ (numbers_of engine.now.set).degree + 1 }
+    ensures answer { result ≡ told (refuse_by (numbers_of engine.now.set) (S.Sweep.count engine.now.set.within) (lent_lists (numbers_of engine.now.set) (S.Sweep.count engine.now.set.within) lent) (state_of file.old regs.old) op) }
+    ensures state { state_of file.new regs.new ≡ either (refuse_by (numbers_of engine.now.set) (S.Sweep.count engine.now.set.within) (lent_lists (numbers_of engine.now.set) (S.Sweep.count engine.now.set.within) lent) (state_of file.old regs.old) op) (state_of file.old regs.old) (done_op (gates_by S.Sweep.defined K.Kernel.reads S.Sweep.count engine.now.set start.now selectors.now rows.now) (numbers_of engine.now.set) (state_of file.old regs.old) op) }
+{
+    let a = at_most(lent.small, small.len());
+    let b = at_most(lent.work, work.len());
+    let c = at_most(lent.scratch, scratch.len());
+    act(
+        engine,
+        file,
+        op,
+        start,
+        selectors,
+        rows,
+        regs,
+        &mut small[0..a],
+        &mut work[0..b],
+        &mut scratch[0..c],
+    )
+}
+
+// A list of orders that is lent so much work memory.
+pub fn orders_lent<K: Kernel + Drop, S: Sweep + Drop>(
+    engine: &Engine<K, S>,
+    file: &mut File,
+    orders: &[u8],
+    lent: Lent,
+    start: &[u32],
+    selectors: &[u32],
+    rows: &[u32],
+    regs: &mut [u16],
+    small: &mut [u16],
+    work: &mut [u32],
+    scratch: &mut [u32],
+) -> Ran
+    requires start { length start.now ≡ start_length (numbers_of engine.now.set) }
+    requires selectors { length selectors.now ≡ selectors_length (numbers_of engine.now.set) (S.Sweep.count engine.now.set.within) }
+    requires rows { length rows.now ≡ rows_length (numbers_of engine.now.set) }
+    requires small { length small.old ≡ wide (numbers_of engine.now.set) + 1 }
+    requires work { length work.old ≡ gate_work (numbers_of engine.now.set) + 1 }
+    requires scratch { length scratch.old ≡ (numbers_of engine.now.set).degree + 1 }
+    ensures { ending (state_of file.new regs.new) result.orders result.stop ≡ orders_end (gates_by S.Sweep.defined K.Kernel.reads S.Sweep.count engine.now.set start.now selectors.now rows.now) (numbers_of engine.now.set) (S.Sweep.count engine.now.set.within) (lent_lists (numbers_of engine.now.set) (S.Sweep.count engine.now.set.within) lent) (state_of file.old regs.old) orders.now }
+{
+    let a = at_most(lent.small, small.len());
+    let b = at_most(lent.work, work.len());
+    let c = at_most(lent.scratch, scratch.len());
+    run_orders(
+        engine,
+        file,
+        orders,
+        start,
+        selectors,
+        rows,
+        regs,
+        &mut small[0..a],
+        &mut work[0..b],
+        &mut scratch[0..c],
+    )
+}
+
+// A read into the first words of a slot.
+pub fn read_lent<K: Drop, S: Drop>(
+    engine: &Engine<K, S>,
+    file: &File,
+    x: u32,
+    len: u32,
+    slot: &mut [u16],
+    regs: &[u16],
+) -> Result<(), Fault>
+    requires { length slot.old ≡ wide (numbers_of engine.now.set) + 1 }
+    ensures answer { result ≡ told (refuse_read (numbers_of engine.now.set) (state_of file.now regs.now) x (min len (wide (numbers_of engine.now.set) + 1))) }
+    ensures slot { slot.new ≡ either (refuse_read (numbers_of engine.now.set) (state_of file.now regs.now) x (min len (wide (numbers_of engine.now.set) + 1))) (replicate (wide (numbers_of engine.now.set) + 1) 0) (words_read (numbers_of engine.now.set) (state_of file.now regs.now) x ++ 0 ∷ []) }
+{
+    slot.fill(0);
+    let n = at_most(len, slot.len());
+    file.read(engine, x, &mut slot[0..n], regs)
+}

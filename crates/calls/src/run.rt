@@ -1,0 +1,154 @@
+ghost use Rattle.std.specs.Prelude.{◌≡◌, ◌+◌, ◌*◌, map, length, replicate, MatchResult};
+ghost use Rattle.faults.specs.Least.{refusal};
+ghost use Rattle.gate.specs.Keys.{start_of, selectors_of};
+ghost use Rattle.gate.specs.Lengths.{start_length, selectors_length, rows_length, gate_work};
+ghost use Rattle.registers.specs.Marks.{state_of};
+ghost use Rattle.registers.specs.Registers.{numbers_of, wide};
+ghost use Rattle.registers.specs.Steps.{gates_by, fresh};
+ghost use Rattle.calls.specs.Calls.{asked, handed_lists};
+ghost use Rattle.calls.specs.Runs.{answers, slots, left, run_of, refuse_run, LeastRun, outcome_of};
+ghost use Rattle.calls.specs.Promise.{Promise};
+
+use crate::answer::Answer;
+use crate::call::Call;
+use crate::checks::run_fault;
+use crate::serve::serve;
+use engine::engine::Engine;
+use faults::fault::Fault;
+use registers::file::File;
+use registers::lists::Lists;
+use registers::sizes::width;
+use kernels::kernel::Kernel;
+use sweeps::sweep::Sweep;
+use words::guard::{Wiped, WipedShorts};
+
+// Every call in turn, whatever those before it answered.
+fn each<K: Kernel + Drop, S: Sweep + Drop>(
+    engine: &Engine<K, S>,
+    file: &mut File,
+    calls: &[Call],
+    got: &mut [Answer],
+    reads: &mut [u16],
+    start: &[u32],
+    selectors: &[u32],
+    rows: &[u32],
+    regs: &mut [u16],
+    small: &mut [u16],
+    work: &mut [u32],
+    scratch: &mut [u32],
+)
+    requires got { length got.old ≡ length calls.now }
+    requires reads { length reads.old ≡ length calls.now * (wide (numbers_of engine.now.set) + 1) }
+    requires start { length start.now ≡ start_length (numbers_of engine.now.set) }
+    requires selectors { length selectors.now ≡ selectors_length (numbers_of engine.now.set) (S.Sweep.count engine.now.set.within) }
+    requires rows { length rows.now ≡ rows_length (numbers_of engine.now.set) }
+    requires small { length small.old ≡ wide (numbers_of engine.now.set) + 1 }
+    requires work { length work.old ≡ gate_work (numbers_of engine.now.set) + 1 }
+    requires scratch { length scratch.old ≡ (numbers_of engine.now.set).degree + 1 }
+    ensures answers { got.new ≡ answers (gates_by S.Sweep.defined K.Kernel.reads S.Sweep.count engine.now.set start.now selectors.now rows.now) (numbers_of engine.now.set) (S.Sweep.count engine.now.set.within) (state_of file.old regs.old) (map asked calls.now) }
+    ensures reads { reads.new ≡ slots (gates_by S.Sweep.defined K.Kernel.reads S.Sweep.count engine.now.set start.now selectors.now rows.now) (numbers_of engine.now.set) (S.Sweep.count engine.now.set.within) (state_of file.old regs.old) (map asked calls.now) }
+    ensures state { state_of file.new regs.new ≡ left (gates_by S.Sweep.defined K.Kernel.reads S.Sweep.count engine.now.set start.now selectors.now rows.now) (numbers_of engine.now.set) (S.Sweep.count engine.now.set.within) (state_of file.old regs.old) (map asked calls.now) }
+{
+    let size = width(engine.set()) + 1;
+    for i in 0..calls.len() {
+        let at = i * size;
+        got[i] = serve(
+            engine,
+            file,
+            &calls[i],
+            &mut reads[at..at + size],
+            start,
+            selectors,
+            rows,
+            regs,
+            small,
+            work,
+            scratch,
+        );
+    }
+}
+
+// A run on a new file, once all lists are right.
+fn begin<K: Kernel + Drop, S: Sweep + Drop>(
+    engine: &Engine<K, S>,
+    count: u32,
+    calls: &[Call],
+    got: &mut [Answer],
+    reads: &mut [u16],
+    start: &[u32],
+    selectors: &[u32],
+    rows: &[u32],
+    regs: &mut [u16],
+    small: &mut [u16],
+    work: &mut [u32],
+    scratch: &mut [u32],
+) -> Result<File, Fault>
+    ensures answer { refusal result ≡ refuse_run (numbers_of engine.now.set) (S.Sweep.count engine.now.set.within) count (length calls.now) (length got.old) (length reads.old) (length regs.old) (handed_lists start.now selectors.now rows.now small.old work.old scratch.old) }
+    ensures outcome { MatchResult result (λ file. (outcome_of file regs.new got.new reads.new) ≡ run_of (gates_by S.Sweep.defined K.Kernel.reads S.Sweep.count engine.now.set start.now selectors.now rows.now) (numbers_of engine.now.set) (S.Sweep.count engine.now.set.within) count (map asked calls.now)) (λ _. (regs.new ≡ regs.old) × ((got.new ≡ got.old) × (reads.new ≡ reads.old))) }
+{
+    let lists = Lists {
+        start: start.len(),
+        selectors: selectors.len(),
+        rows: rows.len(),
+        small: small.len(),
+        work: work.len(),
+        scratch: scratch.len(),
+    };
+    if let Some(fault) = run_fault::<S>(
+        engine.set(),
+        count,
+        calls.len(),
+        got.len(),
+        reads.len(),
+        regs.len(),
+        lists,
+    ) {
+        return Err(fault);
+    }
+    let mut file = File::new(engine, count, regs)?;
+    each(
+        engine, &mut file, calls, got, reads, start, selectors, rows, regs, small, work, scratch,
+    );
+    Ok(file)
+}
+
+// Runs a list of calls on a new file of so many registers.
+pub fn run<K: Kernel + Drop, S: Sweep + Drop>(
+    engine: &Engine<K, S>,
+    count: u32,
+    calls: &[Call],
+    got: &mut [Answer],
+    reads: &mut [u16],
+    start: &[u32],
+    selectors: &[u32],
+    rows: &[u32],
+    regs: &mut [u16],
+    small: &mut [u16],
+    work: &mut [u32],
+    scratch: &mut [u32],
+) -> Result<File, Fault>
+    ensures answer { refusal result ≡ refuse_run (numbers_of engine.now.set) (S.Sweep.count engine.now.set.within) count (length calls.now) (length got.old) (length reads.old) (length regs.old) (handed_lists start.now selectors.now rows.now small.old work.old scratch.old) }
+    ensures outcome { MatchResult result (λ file. Promise S.Sweep.defined S.Sweep.noise S.Sweep.count S.Sweep.message engine.now.set (start_of K.Kernel.reads engine.now.set start.now) (selectors_of K.Kernel.reads S.Sweep.count engine.now.set selectors.now) rows.now count (map asked calls.now) (outcome_of file regs.new got.new reads.new)) (λ _. (regs.new ≡ regs.old) × ((got.new ≡ got.old) × (reads.new ≡ reads.old))) }
+    ensures least { LeastRun (numbers_of engine.now.set) (S.Sweep.count engine.now.set.within) count (length calls.now) (length got.old) (length reads.old) (length regs.old) (handed_lists start.now selectors.now rows.now small.old work.old scratch.old) }
+    ensures small { small.new ≡ replicate (length small.old) 0 }
+    ensures work { work.new ≡ replicate (length work.old) 0 }
+    ensures scratch { scratch.new ≡ replicate (length scratch.old) 0 }
+{
+    let little = WipedShorts { shorts: small };
+    let room = Wiped { words: work };
+    let spare = Wiped { words: scratch };
+    begin(
+        engine,
+        count,
+        calls,
+        got,
+        reads,
+        start,
+        selectors,
+        rows,
+        regs,
+        little.shorts,
+        room.words,
+        spare.words,
+    )
+}

@@ -1,0 +1,5 @@
+pub mod Told
+pub mod Highs
+pub mod Rows
+pub mod Refusals
+pub mod Loaded

@@ -1,0 +1,33 @@
+use Rattle.std.proofs.Common.{ℕ, ◌*◌, ◌<◌, length, sym, refl, ap, ◌∙◌, subst, inl, inr}
+use Rattle.registers.specs.declared.lists.Lists.{Lists}
+use Rattle.registers.specs.Marks.{state_of}
+use Rattle.registers.specs.Registers.{numbers_of, wide}
+use Rattle.registers.proofs.Accepted.{gate_accepted}
+use Rattle.registers.proofs.gates.gate_on.Goals as goal
+
+pub gate_row-requires : goal.gate_row-requires
+gate_row-requires g c =
+    let set = c.args.set.now in
+    let s = state_of c.args.file.now c.args.regs.now in
+    let lists : Lists = record {
+      start = length c.args.start.now;
+      selectors = length c.args.selectors.now;
+      rows = length c.args.rows.now;
+      small = length c.args.small.now;
+      work = length c.args.work.now;
+      scratch = length c.args.scratch.now;
+    } in
+    let a = gate_accepted (numbers_of set) (g.S.Sweep.count c.args.set.now.within) lists s c.args.x c.args.y c.args.z (sym c.in_default.ensures.answer) in
+    let n = sym c.registers.ensures.value in
+    record {
+      start = a.start_long;
+      selectors = a.selectors_long;
+      rows = a.rows_long;
+      whole = a.ready.whole ∙ ap (λ (k : ℕ). k * wide (numbers_of set)) n;
+      small = a.small_long;
+      work = a.work_long;
+      scratch = a.scratch_long;
+      x = subst (λ (k : ℕ). c.args.x < k) n (a.ready.low c.args.x (inl refl));
+      y = subst (λ (k : ℕ). c.args.y < k) n (a.ready.low c.args.y (inr (inl refl)));
+      z = subst (λ (k : ℕ). c.args.z < k) n (a.ready.low c.args.z (inr (inr (inl refl))));
+    }

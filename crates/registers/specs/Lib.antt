@@ -1,0 +1,4 @@
+pub mod Registers
+pub mod Marks
+pub mod Steps
+pub mod Wrong

@@ -1,0 +1,113 @@
+ghost use Rattle.std.specs.Prelude.{◌≡◌, ◌*◌, ◌<◌, length, replicate};
+ghost use Rattle.faults.specs.Least.{told};
+ghost use Rattle.gate.specs.Lengths.{start_length, selectors_length, rows_length, gate_work};
+ghost use Rattle.registers.specs.Marks.{state_of};
+ghost use Rattle.registers.specs.Registers.{numbers_of, wide, row_at, put_row};
+ghost use Rattle.registers.specs.Steps.{gates_by, refuse_gate, next_gate};
+ghost use Rattle.registers.specs.Wrong.{LeastGate};
+
+use crate::file::File;
+use crate::lists::Lists;
+use crate::refuse::refuse_gate;
+use faults::fault::Fault;
+use gate::in_place::gate_at;
+use gate::letter::Letter;
+use kernels::kernel::Kernel;
+use set::checked::Set;
+use sweeps::sweep::Sweep;
+use words::guard::{Wiped, WipedShorts};
+
+// Writes the gate of the registers x and y to z, of so many.
+fn gate_row<K: Kernel, S: Sweep>(
+    kernel: &K,
+    sweep: &S,
+    set: &Set,
+    count: u32,
+    letter: Letter,
+    x: u32,
+    y: u32,
+    z: u32,
+    start: &[u32],
+    selectors: &[u32],
+    rows: &[u32],
+    regs: &mut [u16],
+    small: &mut [u16],
+    work: &mut [u32],
+    scratch: &mut [u32],
+)
+    requires start { length start.now ≡ start_length (numbers_of set.now) }
+    requires selectors { length selectors.now ≡ selectors_length (numbers_of set.now) (S.Sweep.count set.now.within) }
+    requires rows { length rows.now ≡ rows_length (numbers_of set.now) }
+    requires whole { length regs.old ≡ count * wide (numbers_of set.now) }
+    requires small { length small.old ≡ wide (numbers_of set.now) }
+    requires work { length work.old ≡ gate_work (numbers_of set.now) }
+    requires scratch { length scratch.old ≡ (numbers_of set.now).degree }
+    requires x { x < count }
+    requires y { y < count }
+    requires z { z < count }
+    ensures { regs.new ≡ put_row (numbers_of set.now) z regs.old (gates_by S.Sweep.defined K.Kernel.reads S.Sweep.count set.now start.now selectors.now rows.now letter (row_at (wide (numbers_of set.now)) x regs.old) (row_at (wide (numbers_of set.now)) y regs.old)) }
+{
+    let _ = gate_at(
+        kernel, sweep, set, letter, x, y, z, start, selectors, rows, regs, small, work, scratch,
+    );
+}
+
+// The gate of registers of a file.
+pub(crate) fn gate_on<K: Kernel, S: Sweep>(
+    kernel: &K,
+    sweep: &S,
+    set: &Set,
+    file: &mut File,
+    letter: Letter,
+    x: u32,
+    y: u32,
+    z: u32,
+    start: &[u32],
+    selectors: &[u32],
+    rows: &[u32],
+    regs: &mut [u16],
+    small: &mut [u16],
+    work: &mut [u32],
+    scratch: &mut [u32],
+) -> Result<(), Fault>
+    ensures answer { result ≡ told (refuse_gate (numbers_of set.now) (S.Sweep.count set.now.within) (record { start = length start.entry.now; selectors = length selectors.now; rows = length rows.now; small = length small.old; work = length work.old; scratch = length scratch.old }) (state_of file.old regs.old) x y z) }
+    ensures state { state_of file.new regs.new ≡ next_gate (gates_by S.Sweep.defined K.Kernel.reads S.Sweep.count set.now start.entry.now selectors.now rows.now) (numbers_of set.now) (S.Sweep.count set.now.within) (record { start = length start.entry.now; selectors = length selectors.now; rows = length rows.now; small = length small.old; work = length work.old; scratch = length scratch.old }) (state_of file.old regs.old) letter x y z }
+    ensures small { small.new ≡ replicate (length small.old) 0 }
+    ensures work { work.new ≡ replicate (length work.old) 0 }
+    ensures scratch { scratch.new ≡ replicate (length scratch.old) 0 }
+    ensures least { LeastGate (numbers_of set.now) (S.Sweep.count set.now.within) (record { start = length start.entry.now; selectors = length selectors.now; rows = length rows.now; small = length small.old; work = length work.old; scratch = length scratch.old }) (state_of file.old regs.old) x y z }
+{
+    let little = WipedShorts { shorts: small };
+    let room = Wiped { words: work };
+    let spare = Wiped { words: scratch };
+    let lists = Lists {
+        start: start.len(),
+        selectors: selectors.len(),
+        rows: rows.len(),
+        small: little.shorts.len(),
+        work: room.words.len(),
+        scratch: spare.words.len(),
+    };
+    if let Some(fault) = refuse_gate::<S>(set, file, lists, letter, x, y, z, regs) {
+        return Err(fault);
+    }
+    gate_row(
+        kernel,
+        sweep,
+        set,
+        file.registers(),
+        letter,
+        x,
+        y,
+        z,
+        start,
+        selectors,
+        rows,
+        regs,
+        little.shorts,
+        room.words,
+        spare.words,
+    );
+    file.mark(z, true);
+    Ok(())
+}
