@@ -7,20 +7,18 @@ use Rattle.gate.specs.declared.letter.Letter.{Letter}
 use Rattle.registers.specs.declared.lists.Lists.{Lists}
 use Rattle.registers.specs.declared.op.Op.{Op}
 use Rattle.registers.specs.declared.op.Op.TheVariants.{Gate, Invert, Copy, Clear}
-use Rattle.registers.specs.Registers.{wide, row_at, put_row, remainders, opposite, first_high}
+use Rattle.registers.specs.Registers.{wide, row_at, remainders, opposite, first_high}
 use Rattle.registers.specs.Marks.{State}
 use Rattle.registers.specs.Steps.{Gates, either, fresh, written, done_place, refuse_place, next_place, refuse_read, named, used, done_op}
 use Rattle.registers.proofs.Accepted.{Ready, place_accepted}
 use Rattle.registers.proofs.Memory.{row_fits, put_long}
 use Rattle.registers.proofs.Opposite.{opposite_long, remainders_long}
-use Rattle.calls.specs.declared.call.Lent.{Lent}
-use Rattle.calls.specs.declared.answer.Answer.{Answer}
 use Rattle.calls.specs.Answers.{verdict}
-use Rattle.calls.specs.Orders.{Ending, parsed, ordered}
+use Rattle.calls.specs.Orders.{Ending, parsed}
 use Rattle.calls.specs.Calls.{Asked, placing, reading, doing, ordering, lent_lists, refuse_by, refuse_orders, orders_of, stopped, answer, next}
 use Rattle.calls.specs.Runs.{answers}
-use Rattle.calls.specs.Promise.{blank, Shape, placed, other, shape}
-use Rattle.calls.proofs.Followed.{ready_by, done_count}
+use Rattle.calls.specs.Promise.{blank, placed, other, shape}
+use Rattle.calls.proofs.Followed.{ready_by}
 use Rattle.calls.proofs.Ordering.{same_ending}
 
 -- the first word that is not blank

@@ -1,12 +1,12 @@
 -- Registers follow bits, over every list of calls.
-use Rattle.std.proofs.Common.{◌≡◌, ℕ, suc, ◌+◌, ◌*◌, ◌/◌, ◌<◌, ◌≤◌, min, Bool, true, false, cond, eqb, List, [], ◌∷◌, ◌++◌, map, length, get_or, take, drop, set, replicate, ℤ, is_some, Some, None, Ok, Option, sym, refl, ap, ◌∙◌, subst, inl, inr, arith}
+use Rattle.std.proofs.Common.{◌≡◌, ℕ, suc, ◌+◌, ◌*◌, ◌<◌, min, Bool, true, false, cond, eqb, List, [], ◌∷◌, ◌++◌, length, get_or, take, set, replicate, ℤ, Some, None, Option, sym, refl, ap, ◌∙◌, subst, inl, inr, arith}
 use Rattle.std.proofs.lemmas.List.{length-replicate, length-append, take_at, drop_at, get_or_past}
 use Rattle.std.proofs.lemmas.Bool.{cases_lt}
 use Rattle.faults.specs.declared.fault.Fault.{Fault}
 use Rattle.faults.specs.declared.fault.Fault.TheVariants.{Length}
 use Rattle.faults.specs.declared.fault.Layer.{Layer}
 use Rattle.faults.specs.declared.fault.Layer.TheVariants.{File, Runner}
-use Rattle.faults.specs.Least.{or_else, unless}
+use Rattle.faults.specs.Least.{or_else}
 use Rattle.algebra.proofs.Rounding.{narrow_below}
 use Rattle.set.specs.declared.numbers.Numbers.{Numbers}
 use Rattle.set.specs.declared.within.Within.{Within}
@@ -15,7 +15,7 @@ use Rattle.sweeps.specs.Fit.{SmallSecret}
 use Rattle.sweeps.specs.Forms.{ArePolys}
 use Rattle.sweeps.specs.Meaning.{Means}
 use Rattle.gate.specs.declared.letter.Letter.{Letter}
-use Rattle.gate.specs.Bits.{HoldsBit, held_of, open_of}
+use Rattle.gate.specs.Bits.{HoldsBit, held_of}
 use Rattle.gate.specs.Gates.{gate_of, settled_of, KeysFit}
 use Rattle.gate.specs.Lengths.{gate_work}
 use Rattle.gate.proofs.Holding.{answers as gate-answers, gate_long}
@@ -25,19 +25,17 @@ use Rattle.registers.specs.declared.op.Op.{Op}
 use Rattle.registers.specs.Registers.{wide, row_at}
 use Rattle.registers.specs.Marks.{State}
 use Rattle.registers.specs.Steps.{Gates, either, fresh, refuse_place, next_place, refuse_read, words_read, gate_lists, done_op}
-use Rattle.registers.proofs.Accepted.{read_accepted}
 use Rattle.registers.proofs.Memory.{row_long, row_fits}
 use Rattle.registers.proofs.Opposite.{remainders_long}
 use Rattle.calls.specs.declared.call.Lent.{Lent}
-use Rattle.calls.specs.declared.answer.Answer.{Answer}
 use Rattle.calls.specs.Answers.{verdict}
 use Rattle.calls.specs.Orders.{parsed, ordered}
 use Rattle.calls.specs.Plain.{Entries, row7, first_row, handed, plain_place, plain_read, plain_op, plain_call, plain_lists, entered, unless_refused}
-use Rattle.calls.specs.Calls.{Asked, placing, reading, doing, ordering, lent_lists, refuse_by, refuse_orders, orders_of, stopped, answer, next, slot}
-use Rattle.calls.specs.Runs.{Outcome, answers, slots, left, run_of, plain_answer, plain_next, plain_answers, plain_left}
+use Rattle.calls.specs.Calls.{Asked, placing, reading, doing, ordering, lent_lists, refuse_by, refuse_orders, orders_of, answer, next, slot}
+use Rattle.calls.specs.Runs.{answers, slots, left, run_of, plain_answer, plain_next, plain_answers, plain_left}
 use Rattle.calls.specs.Promise.{gates_of, Quiet, Shows, ReadShows, ReadsShow, FollowsBits}
-use Rattle.calls.proofs.Followed.{Tracks, places, reads, calls, order_lists, orders, placed, done, either_way, ready_by, done_count, begins, lent_lists_lem}
-use Rattle.calls.proofs.Held.{Keeps, GatesRight, Held, held_placed, held_done, held_read, held_begins, either_held}
+use Rattle.calls.proofs.Followed.{Tracks, places, reads, calls, order_lists, orders, placed, done, ready_by, done_count, begins, lent_lists_lem}
+use Rattle.calls.proofs.Held.{Keeps, GatesRight, Held, held_placed, held_done, held_read, held_begins}
 use Rattle.calls.proofs.Ordering.{Same, same_ending}
 use Rattle.calls.proofs.Blind.{stopped_same}
 

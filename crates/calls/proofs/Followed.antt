@@ -1,5 +1,5 @@
 -- The machine of plain bits answers each call as the file does, and goes on alike.
-use Rattle.std.proofs.Common.{◌≡◌, ℕ, zero, suc, ◌+◌, ◌*◌, ◌<◌, min, Bool, true, false, not, eqb, List, [], ◌∷◌, map, length, get_or, set, replicate, is_some, Some, None, Option, sym, refl, ap, ◌∙◌, subst, inl, inr, add-zero, arith}
+use Rattle.std.proofs.Common.{◌≡◌, ℕ, zero, suc, ◌+◌, ◌*◌, ◌<◌, Bool, true, false, not, eqb, List, [], ◌∷◌, map, length, get_or, set, replicate, is_some, Some, None, Option, sym, refl, ap, ◌∙◌, inl, inr, add-zero, arith}
 use Rattle.std.proofs.lemmas.List.{length-replicate, length-set, map-set}
 use Rattle.std.proofs.lemmas.Bool.{eq-eqb}
 use Rattle.faults.specs.declared.fault.Fault.{Fault}
@@ -16,7 +16,7 @@ use Rattle.registers.specs.declared.op.Op.{Op}
 use Rattle.registers.specs.declared.op.Op.TheVariants.{Gate, Invert, Copy, Clear}
 use Rattle.registers.specs.Registers.{wide, row_at, remainders, opposite}
 use Rattle.registers.specs.Marks.{State}
-use Rattle.registers.specs.Steps.{Gates, either, bad_memory, bad_length, bad_registers, gate_lists, fresh, written, done_place, refuse_place, next_place, refuse_read, named, used, done_op, refuse_op, refuse_gate}
+use Rattle.registers.specs.Steps.{Gates, either, bad_memory, bad_length, bad_registers, gate_lists, fresh, written, done_place, refuse_place, next_place, refuse_read, named, used, done_op, refuse_op}
 use Rattle.registers.proofs.Accepted.{Ready, place_accepted, op_accepted, gate_accepted}
 use Rattle.registers.proofs.Memory.{row_fits, put_long}
 use Rattle.registers.proofs.Opposite.{opposite_long, remainders_long}

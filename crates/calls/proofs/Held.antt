@@ -4,7 +4,7 @@ use Rattle.std.proofs.lemmas.List.{get_or-set_same, get_or-set_other, get_or-rep
 use Rattle.std.proofs.lemmas.Bool.{cases_eq}
 use Rattle.faults.specs.declared.fault.Fault.{Fault}
 use Rattle.algebra.specs.Gates.{invert}
-use Rattle.algebra.specs.Words.{coeffs, words}
+use Rattle.algebra.specs.Words.{coeffs}
 use Rattle.algebra.proofs.Cong.{cong_trans}
 use Rattle.algebra.proofs.Phases.{phase_alike}
 use Rattle.algebra.proofs.Words.{words_alike, words_below}

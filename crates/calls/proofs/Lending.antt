@@ -6,7 +6,6 @@ use Rattle.faults.specs.declared.fault.Fault.{Fault}
 use Rattle.faults.specs.Least.{refusal, told}
 use Rattle.set.specs.declared.numbers.Numbers.{Numbers}
 use Rattle.gate.specs.Lengths.{start_length, selectors_length, rows_length, gate_work}
-use Rattle.registers.specs.declared.lists.Lists.{Lists}
 use Rattle.registers.specs.Registers.{wide}
 use Rattle.registers.specs.Marks.{State}
 use Rattle.registers.specs.Steps.{either, refuse_read, words_read, read_out}

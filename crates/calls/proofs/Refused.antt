@@ -1,11 +1,11 @@
 -- Each refusal of a run is the least of the faults that are true of it.
-use Rattle.std.proofs.Common.{◌≡◌, ℕ, ◌+◌, ◌*◌, ◌/◌, ◌%◌, ◌<◌, ◌≤◌, Bool, true, false, ◌&&◌, eqb, leb, ◌⊎◌, List, Some, None, Option, sym, refl, ap, ◌∙◌, subst, inl, inr, div-add-mod', mul-div_cancel, arith}
+use Rattle.std.proofs.Common.{◌≡◌, ℕ, ◌+◌, ◌*◌, ◌/◌, ◌%◌, ◌<◌, ◌≤◌, Bool, true, false, ◌&&◌, eqb, leb, ◌⊎◌, Some, None, Option, sym, refl, ap, ◌∙◌, subst, inl, inr, div-add-mod', mul-div_cancel, arith}
 use native.Mathlib.Nat.{mul-mod_left}
 use Rattle.std.proofs.lemmas.Bool.{eqb-true, eqb-false, eq-eqb, ne_eqb, leb-true, leb-false, and_parts, and_cases}
 use Rattle.faults.specs.declared.fault.Fault.{Fault}
 use Rattle.faults.specs.declared.fault.Fault.TheVariants.{Length, Register}
 use Rattle.faults.specs.declared.fault.Layer.TheVariants.{File, Runs}
-use Rattle.faults.specs.Least.{Least, NoLater, or_else, unless}
+use Rattle.faults.specs.Least.{Least, or_else, unless}
 use Rattle.faults.proofs.Least.{Rows, row_first, row_last}
 use Rattle.set.specs.declared.numbers.Numbers.{Numbers}
 use Rattle.gate.specs.Lengths.{start_length, selectors_length, rows_length, gate_work}

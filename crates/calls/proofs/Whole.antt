@@ -7,7 +7,6 @@ use Rattle.sweeps.specs.Forms.{ArePolys}
 use Rattle.sweeps.specs.Meaning.{Means}
 use Rattle.gate.proofs.Holding.{gate_long}
 use Rattle.registers.specs.Registers.{numbers_of}
-use Rattle.calls.specs.declared.answer.Answer.{Answer}
 use Rattle.calls.specs.Calls.{Asked}
 use Rattle.calls.specs.Runs.{Outcome, run_of}
 use Rattle.calls.specs.Promise.{gates_of, FollowsBits, Promise}

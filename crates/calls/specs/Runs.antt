@@ -1,5 +1,5 @@
 -- Runs of lists of calls: on the register file, and on the machine of plain bits.
-use Rattle.std.specs.Prelude.{◌≡◌, ℕ, ◌+◌, ◌*◌, ◌≤◌, min, Bool, ◌&&◌, ◌⊎◌, List, [], ◌∷◌, ◌++◌, Some, None, Option, ◌≢◌, nat_le, slice_set}
+use Rattle.std.specs.Prelude.{◌≡◌, ℕ, ◌+◌, ◌*◌, ◌≤◌, min, Bool, ◌&&◌, ◌⊎◌, List, [], ◌∷◌, ◌++◌, Some, Option, ◌≢◌, nat_le, slice_set}
 use Rattle.faults.specs.declared.fault.Fault.{Fault}
 use Rattle.faults.specs.declared.fault.Fault.TheVariants.{Length, Register}
 use Rattle.faults.specs.declared.fault.Layer.TheVariants.{Runs}
@@ -8,11 +8,9 @@ use Rattle.set.specs.declared.numbers.Numbers.{Numbers}
 use Rattle.gate.specs.Lengths.{start_length, selectors_length, rows_length, gate_work}
 use Rattle.registers.specs.declared.file.File.{File}
 use Rattle.registers.specs.declared.lists.Lists.{Lists}
-use Rattle.registers.specs.declared.op.Op.{Op}
 use Rattle.registers.specs.Registers.{wide}
 use Rattle.registers.specs.Marks.{State, filled}
 use Rattle.registers.specs.Steps.{Gates, fresh}
-use Rattle.calls.specs.declared.call.Lent.{Lent}
 use Rattle.calls.specs.declared.answer.Answer.{Answer}
 use Rattle.calls.specs.Answers.{verdict}
 use Rattle.calls.specs.Orders.{parsed, ordered}

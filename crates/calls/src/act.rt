@@ -7,9 +7,9 @@ ghost use Rattle.calls.specs.Calls.{handed_lists, refuse_by};
 
 use engine::engine::Engine;
 use faults::fault::Fault;
+use kernels::kernel::Kernel;
 use registers::file::File;
 use registers::op::Op;
-use kernels::kernel::Kernel;
 use sweeps::sweep::Sweep;
 
 // An operation, as the call that it stands for.

@@ -13,9 +13,9 @@ use crate::call::Lent;
 use crate::orders::run_orders;
 use engine::engine::Engine;
 use faults::fault::Fault;
+use kernels::kernel::Kernel;
 use registers::file::File;
 use registers::op::Op;
-use kernels::kernel::Kernel;
 use sweeps::sweep::Sweep;
 
 // As many as asked for, at most all.

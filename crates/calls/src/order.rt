@@ -1,8 +1,8 @@
 ghost use Rattle.std.specs.Prelude.{◌≡◌};
 ghost use Rattle.calls.specs.Orders.{other_order, order_of};
 
-use registers::op::Op;
 use gate::letter::letter_of;
+use registers::op::Op;
 
 // An order that is no gate: unused numbers are 0.
 fn other_order(letter: char, x: u8, y: u8, z: u8) -> Option<Op>

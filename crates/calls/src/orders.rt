@@ -12,9 +12,9 @@ use crate::checks::orders_fault;
 use crate::order::order_of;
 use engine::engine::Engine;
 use faults::fault::Fault;
+use kernels::kernel::Kernel;
 use registers::file::File;
 use registers::lists::Lists;
-use kernels::kernel::Kernel;
 use sweeps::sweep::Sweep;
 use words::guard::{Wiped, WipedShorts};
 

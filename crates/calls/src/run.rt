@@ -15,10 +15,10 @@ use crate::checks::run_fault;
 use crate::serve::serve;
 use engine::engine::Engine;
 use faults::fault::Fault;
+use kernels::kernel::Kernel;
 use registers::file::File;
 use registers::lists::Lists;
 use registers::sizes::width;
-use kernels::kernel::Kernel;
 use sweeps::sweep::Sweep;
 use words::guard::{Wiped, WipedShorts};
 

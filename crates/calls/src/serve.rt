@@ -10,9 +10,9 @@ use crate::answer::{Answer, verdict_of};
 use crate::call::{Call, Lent};
 use crate::lend::{act_lent, orders_lent, read_lent};
 use engine::engine::Engine;
+use kernels::kernel::Kernel;
 use registers::file::File;
 use registers::op::Op;
-use kernels::kernel::Kernel;
 use sweeps::sweep::Sweep;
 
 // A placing as a call.

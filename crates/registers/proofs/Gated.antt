@@ -1,5 +1,5 @@
 -- A gate on registers, from the gate that is proved for lists of right lengths.
-use Rattle.std.proofs.Common.{◌≡◌, ℕ, ◌+◌, ◌*◌, ◌<◌, ◌≤◌, max, Bool, cond, List, [], ◌∷◌, ◌++◌, length, take, drop, None, Result, sym, refl, ap, ◌∙◌, mul-le-mul_right, arith, eq-eqb}
+use Rattle.std.proofs.Common.{◌≡◌, ℕ, ◌+◌, ◌*◌, ◌<◌, ◌≤◌, max, Bool, List, [], ◌∷◌, ◌++◌, take, None, Result, sym, refl, ap, ◌∙◌, mul-le-mul_right, arith, eq-eqb}
 use Rattle.std.proofs.lemmas.List.{drop-drop}
 use Rattle.faults.specs.declared.fault.Fault.{Fault}
 use Rattle.faults.specs.declared.fault.Fault.TheVariants.{Length}
@@ -7,7 +7,7 @@ use Rattle.faults.specs.declared.fault.Layer.TheVariants.{Gate}
 use Rattle.faults.specs.Least.{or_else, unless, told}
 use Rattle.kernels.specs.Lengths.{after}
 use Rattle.set.specs.declared.numbers.Numbers.{Numbers}
-use Rattle.gate.specs.Gates.{reach_of, gate_at_refused, register_at, with_register}
+use Rattle.gate.specs.Gates.{reach_of, gate_at_refused, with_register}
 use Rattle.gate.specs.Lengths.{first_wrong, AllRight, start_length, selectors_length, rows_length, gate_work}
 use Rattle.registers.specs.Registers.{wide, put_row}
 

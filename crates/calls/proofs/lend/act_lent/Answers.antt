@@ -1,11 +1,11 @@
-use Rattle.std.proofs.Common.{◌≡◌, ℕ, ap, ◌∙◌}
+use Rattle.std.proofs.Common.{ℕ, ap, ◌∙◌}
 use Rattle.faults.specs.Least.{told}
 use Rattle.set.specs.declared.numbers.Numbers.{Numbers}
 use Rattle.registers.specs.declared.lists.Lists.{Lists}
 use Rattle.registers.specs.Marks.{State, state_of}
 use Rattle.registers.specs.Registers.{numbers_of}
 use Rattle.registers.specs.Steps.{Gates, gates_by, either, done_op}
-use Rattle.calls.specs.Calls.{refuse_by, orders_end}
+use Rattle.calls.specs.Calls.{refuse_by}
 use Rattle.calls.proofs.Lending.{lists_lent}
 use Rattle.calls.proofs.lend.act_lent.Goals as goal
 

@@ -1,4 +1,4 @@
-use Rattle.std.proofs.Common.{◌≡◌, ℕ, ap, ◌∙◌}
+use Rattle.std.proofs.Common.{ℕ, ap, ◌∙◌}
 use Rattle.faults.specs.Least.{told}
 use Rattle.set.specs.declared.numbers.Numbers.{Numbers}
 use Rattle.registers.specs.Marks.{State, state_of}

@@ -1,4 +1,4 @@
-use Rattle.std.proofs.Common.{◌≡◌, ℕ, List, sym, ◌∙◌, arith}
+use Rattle.std.proofs.Common.{◌≡◌, ℕ, sym, ◌∙◌, arith}
 use Rattle.set.specs.declared.numbers.Numbers.{Numbers}
 use Rattle.registers.specs.declared.lists.Lists.{Lists}
 use Rattle.registers.specs.Marks.{State, state_of}

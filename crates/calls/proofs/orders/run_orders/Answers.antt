@@ -1,4 +1,4 @@
-use Rattle.std.proofs.Common.{◌≡◌, ℕ, List, Some, None, Option, sym, refl, ap, ◌∙◌, subst, rules}
+use Rattle.std.proofs.Common.{◌≡◌, ℕ, List, Some, None, Option, ap, ◌∙◌, rules}
 use Rattle.faults.specs.declared.fault.Fault.{Fault}
 use Rattle.set.specs.declared.numbers.Numbers.{Numbers}
 use Rattle.set.specs.declared.checked.Set.{Set}
@@ -6,7 +6,7 @@ use Rattle.registers.specs.declared.lists.Lists.{Lists}
 use Rattle.registers.specs.Marks.{State, state_of}
 use Rattle.registers.specs.Registers.{numbers_of}
 use Rattle.registers.specs.Steps.{Gates, gates_by}
-use Rattle.calls.specs.Orders.{Ending, ending}
+use Rattle.calls.specs.Orders.{ending}
 use Rattle.calls.specs.Plain.{unless_refused}
 use Rattle.calls.specs.Calls.{handed_lists, refuse_orders, orders_of}
 use Rattle.calls.proofs.Steps.{orders_calls}

@@ -1,5 +1,4 @@
-use Rattle.std.proofs.Common.{◌≡◌, ℕ, length, Some, None, sym, ap, ◌∙◌, arith}
-use Rattle.faults.specs.declared.fault.Fault.{Fault}
+use Rattle.std.proofs.Common.{◌≡◌, ℕ, length, None, sym, ap, ◌∙◌}
 use Rattle.set.specs.declared.numbers.Numbers.{Numbers}
 use Rattle.set.specs.declared.checked.Set.{Set}
 use Rattle.registers.specs.declared.lists.Lists.{Lists}

@@ -1,6 +1,6 @@
-use Rattle.std.proofs.Common.{◌≡◌, ℕ, ◌+◌, ◌*◌, List, ◌++◌, map, take, drop}
+use Rattle.std.proofs.Common.{map}
 use Rattle.registers.specs.Marks.{state_of}
-use Rattle.registers.specs.Registers.{numbers_of, wide}
+use Rattle.registers.specs.Registers.{numbers_of}
 use Rattle.registers.specs.Steps.{gates_by}
 use Rattle.calls.specs.Calls.{asked}
 use Rattle.calls.proofs.Pushes.{Goes}

@@ -1,4 +1,4 @@
-use Rattle.std.proofs.Common.{◌≡◌, ℕ, ◌*◌, List, map, length, rules}
+use Rattle.std.proofs.Common.{ℕ, ◌*◌, List, map, length, rules}
 use Rattle.std.proofs.lemmas.Result.{MatchResult-weaker}
 use Rattle.set.specs.declared.numbers.Numbers.{Numbers}
 use Rattle.gate.specs.Keys.{start_of, selectors_of}

@@ -1,4 +1,4 @@
-use Rattle.std.proofs.Common.{◌≡◌, ℕ, Option}
+use Rattle.std.proofs.Common.{ℕ, Option}
 use Rattle.faults.specs.declared.fault.Fault.{Fault}
 use Rattle.set.specs.declared.numbers.Numbers.{Numbers}
 use Rattle.registers.specs.declared.lists.Lists.{Lists}
