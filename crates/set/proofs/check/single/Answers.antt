@@ -1,6 +1,5 @@
-use Rattle.std.proofs.Common.{◌≡◌, sym, ap, ◌∙◌, arith}
+use Rattle.std.proofs.Common.{◌≡◌, sym, ◌∙◌, arith}
 use Rattle.std.proofs.lemmas.Result.{err_from_is_err_and, IfOk-weaker}
-use Rattle.set.specs.declared.numbers.Numbers.{Numbers}
 use Rattle.set.specs.Noise.{single_noise}
 use Rattle.set.specs.Limits.{limits_broken}
 use Rattle.set.specs.Rules.{rules_broken}
@@ -27,10 +26,9 @@ returns c =
     let short : Short n =
     record { degree_short = omega arith; small_short = omega arith; dropped_short = omega arith; base_short = omega arith; switch_short = omega arith; radix_short = omega arith } in
     let e : c.in_ok-within.within.numbers ≡ n = c.in_ok-within.ensures.made in
-    let v : c.single.result ≡ single_noise n = c.single.ensures.value ∙ ap (λ (m : Numbers). single_noise m) e in
     let o = or_next (limits_broken n) (rules_broken n (single_noise n)) (sym c.in_ok-within.ensures.answer) in
     record {
-      answer = c.checked.ensures.answer ∙ ap (λ x. rules_broken x c.single.result) e ∙ ap (λ x. rules_broken n x) v ∙ sym o;
-      made = IfOk-weaker c.checked.result _ _ (λ s p. (p.0 ∙ e, p.1 ∙ v)) c.checked.ensures.made;
+      answer = cc o;
+      made = IfOk-weaker c.checked.result _ _ (λ s p. (p.0 ∙ e, (cc))) c.checked.ensures.made;
       least = set_least n (single_noise n) short;
     }
