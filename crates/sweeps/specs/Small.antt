@@ -19,3 +19,10 @@ module _ (w : Within) where
       paired_small n.dimension (n.degree * n.digits * n.base * n.noise) (2 * (n.dropped / 2) * n.weight) w.lengths.3
       (product_small n.degree n.digits n.base n.noise w.lengths.1 w.split.3 w.split.1 w.split.4)
       (drops_small (n.dropped / 2) n.weight (omega (arith, w.split)) (omega (arith, w.secrets, w.lengths)))
+
+  -- both limits of a sweep, for the single and for the paired one
+  pub single_few : (single_noise w.numbers ≤ 2 ^ 55) × (w.numbers.dimension ≤ 2 ^ 14)
+  single_few = (single_noise_small, omega (arith, w.lengths))
+
+  pub paired_few : (paired_noise w.numbers ≤ 2 ^ 55) × (3 * (w.numbers.dimension / 2) ≤ 2 ^ 14)
+  paired_few = (paired_noise_small, omega (arith, w.lengths))

@@ -6,8 +6,7 @@ ghost use Rattle.sweeps.specs.Layout.{numbers_of, work_long, key_end, polys_in};
 ghost use Rattle.sweeps.specs.Steps.{pair_part, paired_step, paired_run, paired_message};
 ghost use Rattle.set.specs.Noise.{paired_noise};
 ghost use Rattle.sweeps.specs.Meanings.{paired_means, paired_closed, constant_poly};
-ghost use Rattle.std.proofs.Common.{arith};
-ghost use Rattle.sweeps.specs.Small.{paired_noise_small};
+ghost use Rattle.sweeps.specs.Small.{paired_few};
 ghost use Rattle.sweeps.specs.Fit.{entries};
 
 use crate::sweep::Sweep;
@@ -161,7 +160,7 @@ impl Sweep for Paired {
 
     ghost closed = { λ set exponents keys old long count polys poly. paired_closed set.within exponents keys old poly };
 
-    ghost few = { λ w. (paired_noise_small w, omega (arith, w.lengths)) };
+    ghost few = { paired_few };
 
     ghost messages = { λ w s j. constant_poly w (pair_part (j % 3) (entries s (2 * (j / 3))) (entries s (2 * (j / 3) + 1))) };
 

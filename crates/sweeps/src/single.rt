@@ -6,8 +6,7 @@ ghost use Rattle.sweeps.specs.Layout.{numbers_of, work_long, key_end, polys_in};
 ghost use Rattle.sweeps.specs.Steps.{single_step, single_run, single_message};
 ghost use Rattle.set.specs.Noise.{single_noise};
 ghost use Rattle.sweeps.specs.Meanings.{single_means, single_closed, constant_poly};
-ghost use Rattle.std.proofs.Common.{arith};
-ghost use Rattle.sweeps.specs.Small.{single_noise_small};
+ghost use Rattle.sweeps.specs.Small.{single_few};
 ghost use Rattle.sweeps.specs.Fit.{entries};
 
 use crate::sweep::Sweep;
@@ -95,7 +94,7 @@ impl Sweep for Single {
 
     ghost closed = { λ set exponents keys old long count polys poly. single_closed set.within exponents keys old poly };
 
-    ghost few = { λ w. (single_noise_small w, omega (arith, w.lengths)) };
+    ghost few = { single_few };
 
     ghost messages = { λ w s j. constant_poly w (entries s j) };
 
