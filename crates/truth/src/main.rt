@@ -17,9 +17,7 @@ use gate::letter::Letter;
 fn main(rt: HostRuntime) -> Result<(), Failure> {
     let mut world = World::new(rt.alloc())?;
     for name in ['N', 'A', 'O', 'R', 'X', 'E'] {
-        let Ok(letter) = Letter::try_from(name) else {
-            continue;
-        };
+        let letter = Letter::try_from(name)?;
         let a = world.opened(letter, false, false)? as u8;
         let b = world.opened(letter, false, true)? as u8;
         let c = world.opened(letter, true, false)? as u8;
