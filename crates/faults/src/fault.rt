@@ -1,5 +1,9 @@
-ghost use Rattle.std.specs.Prelude.{◌≡◌};
+ghost use Rattle.std.specs.Prelude.{◌≡◌, Some};
 ghost use Rattle.faults.specs.Causes.{number_of, place_of, layer_of};
+ghost use Rattle.faults.specs.Texts.{layer_text, place_text, fault_text};
+
+use std::error::Error;
+use std::fmt;
 
 // The part of the engine in which a fault began.
 #[derive(Clone, Copy, PartialEq, Eq, Debug)]
@@ -66,22 +70,22 @@ impl Fault {
         ensures { result ≡ number_of self }
     {
         match self {
-            Fault::Directory { pair: _ } => 1,
-            Fault::Field { field: _ } => 2,
-            Fault::Cover { field: _ } => 3,
+            Fault::Directory { .. } => 1,
+            Fault::Field { .. } => 2,
+            Fault::Cover { .. } => 3,
             Fault::Root => 4,
-            Fault::Closing { condition: _ } => 5,
-            Fault::PartLength { pair: _ } => 6,
-            Fault::Length { list: _, part: _ } => 7,
-            Fault::ImageWord { offset: _ } => 8,
-            Fault::Order { order: _ } => 9,
-            Fault::Register { register: _ } => 10,
-            Fault::Empty { register: _ } => 11,
-            Fault::CipherWord { word: _, part: _ } => 12,
-            Fault::Secret { list: _, entry: _ } => 13,
-            Fault::Inverse { coefficient: _ } => 14,
-            Fault::Sample { list: _, entry: _ } => 15,
-            Fault::Phase { phase: _ } => 16,
+            Fault::Closing { .. } => 5,
+            Fault::PartLength { .. } => 6,
+            Fault::Length { .. } => 7,
+            Fault::ImageWord { .. } => 8,
+            Fault::Order { .. } => 9,
+            Fault::Register { .. } => 10,
+            Fault::Empty { .. } => 11,
+            Fault::CipherWord { .. } => 12,
+            Fault::Secret { .. } => 13,
+            Fault::Inverse { .. } => 14,
+            Fault::Sample { .. } => 15,
+            Fault::Phase { .. } => 16,
         }
     }
 
@@ -96,12 +100,12 @@ impl Fault {
             Fault::Root => Place::At(4),
             Fault::Closing { condition } => Place::At(condition as u64),
             Fault::PartLength { pair } => Place::At(pair as u64),
-            Fault::Length { list, part: _ } => Place::At(list as u64),
+            Fault::Length { list, .. } => Place::At(list as u64),
             Fault::ImageWord { offset } => Place::At(offset),
             Fault::Order { order } => Place::At(order),
             Fault::Register { register } => Place::At(register as u64),
             Fault::Empty { register } => Place::At(register as u64),
-            Fault::CipherWord { word, part: _ } => Place::At(word as u64),
+            Fault::CipherWord { word, .. } => Place::At(word as u64),
             Fault::Secret { list, entry } => Place::Entry(list as u64, entry),
             Fault::Inverse { coefficient } => Place::At(coefficient as u64),
             Fault::Sample { list, entry } => Place::Entry(list as u64, entry),
@@ -114,22 +118,64 @@ impl Fault {
         ensures { result ≡ layer_of self }
     {
         match self {
-            Fault::Directory { pair: _ } => Layer::Image,
-            Fault::Field { field: _ } => Layer::Set,
-            Fault::Cover { field: _ } => Layer::Set,
+            Fault::Directory { .. } => Layer::Image,
+            Fault::Field { .. } => Layer::Set,
+            Fault::Cover { .. } => Layer::Set,
             Fault::Root => Layer::Set,
-            Fault::Closing { condition: _ } => Layer::Set,
-            Fault::PartLength { pair: _ } => Layer::Image,
-            Fault::Length { list: _, part } => part,
-            Fault::ImageWord { offset: _ } => Layer::Image,
-            Fault::Order { order: _ } => Layer::Runner,
-            Fault::Register { register: _ } => Layer::File,
-            Fault::Empty { register: _ } => Layer::File,
-            Fault::CipherWord { word: _, part } => part,
-            Fault::Secret { list: _, entry: _ } => Layer::Secrets,
-            Fault::Inverse { coefficient: _ } => Layer::Secrets,
-            Fault::Sample { list: _, entry: _ } => Layer::Secrets,
-            Fault::Phase { phase: _ } => Layer::Secrets,
+            Fault::Closing { .. } => Layer::Set,
+            Fault::PartLength { .. } => Layer::Image,
+            Fault::Length { part, .. } => part,
+            Fault::ImageWord { .. } => Layer::Image,
+            Fault::Order { .. } => Layer::Runner,
+            Fault::Register { .. } => Layer::File,
+            Fault::Empty { .. } => Layer::File,
+            Fault::CipherWord { part, .. } => part,
+            Fault::Secret { .. } => Layer::Secrets,
+            Fault::Inverse { .. } => Layer::Secrets,
+            Fault::Sample { .. } => Layer::Secrets,
+            Fault::Phase { .. } => Layer::Secrets,
         }
     }
 }
+
+impl fmt::Display for Layer {
+    ghost output = { λ layer. Some (layer_text layer) };
+
+    fn fmt<W: fmt::Write>(&self, f: &mut fmt::Formatter<W>) -> fmt::Result {
+        f.write_str(match self {
+            Layer::Image => "image",
+            Layer::Set => "set",
+            Layer::Digits => "digits",
+            Layer::Kernel => "kernel",
+            Layer::Sweep => "sweep",
+            Layer::Gate => "gate",
+            Layer::File => "file",
+            Layer::Runner => "runner",
+            Layer::Runs => "runs",
+            Layer::Secrets => "secrets",
+        })
+    }
+}
+
+impl fmt::Display for Place {
+    ghost output = { λ place. Some (place_text place) };
+
+    fn fmt<W: fmt::Write>(&self, f: &mut fmt::Formatter<W>) -> fmt::Result {
+        match self {
+            Place::At(place) => write!(f, "{place}"),
+            Place::Entry(list, entry) => write!(f, "{list},{entry}"),
+        }
+    }
+}
+
+// Cause, place and layer.
+impl fmt::Display for Fault {
+    ghost output = { λ fault. Some (fault_text fault) };
+
+    fn fmt<W: fmt::Write>(&self, f: &mut fmt::Formatter<W>) -> fmt::Result {
+        let (number, place, layer) = (self.number(), self.place(), self.layer());
+        write!(f, "fault {number} {place} {layer}")
+    }
+}
+
+impl Error for Fault {}

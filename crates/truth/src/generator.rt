@@ -1,4 +1,4 @@
-ghost use Rattle.std.specs.Prelude.{◌+◌, ◌*◌, ◌^◌, ◌≤◌};
+ghost use Rattle.std.specs.Prelude.{◌^◌, ◌≤◌};
 
 use set::numbers::Numbers;
 
@@ -23,15 +23,6 @@ impl Generator {
         x
     }
 
-    // Numbers below the bound.
-    pub fn fill_below(&mut self, bound: u32, out: &mut [i32])
-        requires { bound ≤ 2 ^ 20 }
-    {
-        for i in 0..out.len() {
-            out[i] = self.below(bound);
-        }
-    }
-
     // A number below the bound.
     fn below(&mut self, bound: u32) -> i32
         requires { bound ≤ 2 ^ 20 }
@@ -39,28 +30,41 @@ impl Generator {
         (self.advance() % bound.max(1)) as i32
     }
 
-    // The samples of the key maker: noises of polynomials, and for each row its random words and its noise.
-    pub fn fill_samples(&mut self, numbers: &Numbers, noises: usize, out: &mut [i32])
-        requires noise { numbers.now.noise ≤ 2 ^ 16 }
-        requires jitter { numbers.now.jitter ≤ 2 ^ 16 }
-        requires switch { numbers.now.switch ≤ 2 ^ 20 }
-    {
-        let length = numbers.dimension as usize + 1;
-        for i in 0..out.len() {
-            out[i] = if i < noises {
-                self.within(numbers.noise)
-            } else if (i - noises) % length < length - 1 {
-                self.below(numbers.switch)
-            } else {
-                self.within(numbers.jitter)
-            };
-        }
-    }
-
     // A number from -bound to bound.
     pub fn within(&mut self, bound: u32) -> i32
         requires { bound ≤ 2 ^ 16 }
     {
         (self.advance() % (2 * bound + 1)) as i32 - bound as i32
+    }
+
+    // Numbers below the bound.
+    pub fn fill_below(&mut self, bound: u32, out: &mut [i32])
+        requires { bound ≤ 2 ^ 20 }
+    {
+        for x in out.iter_mut() {
+            *x = self.below(bound);
+        }
+    }
+
+    // Numbers from -bound to bound.
+    pub fn fill_within(&mut self, bound: u32, out: &mut [i32])
+        requires { bound ≤ 2 ^ 16 }
+    {
+        for x in out.iter_mut() {
+            *x = self.within(bound);
+        }
+    }
+
+    // The samples of switch rows: for each its random words and its noise.
+    pub fn fill_rows(&mut self, numbers: &Numbers, out: &mut [i32])
+        requires jitter { numbers.now.jitter ≤ 2 ^ 16 }
+        requires switch { numbers.now.switch ≤ 2 ^ 20 }
+    {
+        for row in out.chunks_exact_mut(numbers.dimension as usize + 1) {
+            if let Some((noise, randoms)) = row.split_last_mut() {
+                self.fill_below(numbers.switch, randoms);
+                *noise = self.within(numbers.jitter);
+            }
+        }
     }
 }

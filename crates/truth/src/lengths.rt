@@ -1,23 +1,28 @@
-ghost use Rattle.std.specs.Prelude.{◌≡◌, ◌*◌, ◌^◌, ◌≤◌, length};
+ghost use Rattle.std.specs.Prelude.{◌≡◌, ◌*◌, ◌^◌, ◌<◌, ◌≤◌, length, OnOk};
 
 use faults::fault::{Fault, Layer};
 
-// The refusal of a list for its length.
-pub fn wrong_length(list: u32, part: Layer) -> Fault {
-    Fault::Length { list, part }
-}
-
-// Refuses the first list whose length is not right.
-pub fn expect_lengths(part: Layer, lengths: &[usize], right: &[usize]) -> Result<(), Fault>
-    requires few { length lengths.now ≤ 32 }
-    requires right { length right.now ≡ length lengths.now }
+// Refuses a list whose length is not right.
+pub fn expect_length(part: Layer, list: u32, len: usize, right: usize) -> Result<(), Fault>
+    ensures { OnOk result (len ≡ right) }
 {
-    for i in 0..lengths.len() {
-        if lengths[i] != right[i] {
-            return Err(wrong_length(i as u32, part));
-        }
+    if len != right {
+        return Err(Fault::Length { list, part });
     }
     Ok(())
+}
+
+// Refuses the first list whose length is not right: each list's length stands with the right one.
+pub fn expect_lengths(part: Layer, lengths: &[(usize, usize)]) -> Result<(), Fault>
+    requires { length lengths.now ≤ 32 }
+{
+    match lengths.iter().position(|(len, right)| len != right) {
+        Some(list) => Err(Fault::Length {
+            list: list as u32,
+            part,
+        }),
+        None => Ok(()),
+    }
 }
 
 // The words of the digits of a polynomial.
@@ -25,6 +30,7 @@ pub fn digit_words(digits: usize, degree: usize) -> usize
     requires digits { digits ≤ 31 }
     requires degree { degree ≤ 1024 }
     ensures value { result ≡ digits * degree }
+    ensures some { 0 < digits → 0 < degree → 0 < result }
     ensures bound { result ≤ 2 ^ 15 }
 {
     digits * degree

@@ -1,3 +1,4 @@
+use crate::maker::Secrets;
 use set::numbers::Numbers;
 
 // A small set for a paired sweep. Its noise bound 4 is the least that it closes at.
@@ -20,15 +21,22 @@ pub const TOY: Numbers = Numbers {
     bound: 4,
 };
 
+// What the keys are made for.
+pub const SECRETS: Secrets<'static> = Secrets {
+    f: &RING_SECRET,
+    inverse: &INVERSE,
+    s: &SMALL_SECRET,
+};
+
 // The ring secret, of the full weight.
-pub const RING_SECRET: [i32; 64] = [
+const RING_SECRET: [i32; 64] = [
     0, 0, 1, -1, 1, 1, -1, 1, 0, 1, 0, 0, 0, -1, 1, 1, 0, 0, 0, 0, 0, 0, 0, 1, 0, 1, 1, 1, 0, 0, 0,
     0, -1, 0, -1, -1, -1, -1, -1, 1, 0, -1, 0, 0, 0, 0, -1, 1, 0, 0, 0, -1, -1, 0, 0, 0, 0, 1, -1,
     1, -1, 0, 1, -1,
 ];
 
 // The inverse of the ring secret.
-pub const INVERSE: [u32; 64] = [
+const INVERSE: [u32; 64] = [
     394644760, 1439915622, 1285004484, 1039202949, 924236046, 638433961, 1276855429, 281509962,
     1630526695, 139426896, 1348626814, 825923478, 1623878215, 899610257, 540399062, 894096805,
     1705904822, 939755559, 1028752585, 438890493, 488865153, 1287638763, 1860061703, 1336318451,
@@ -40,4 +48,4 @@ pub const INVERSE: [u32; 64] = [
 ];
 
 // The small secret, of the full weight: its pairs are 1 1, 0 0, 0 1 and 1 0.
-pub const SMALL_SECRET: [i32; 8] = [1, 1, 0, 0, 0, 1, 1, 0];
+const SMALL_SECRET: [i32; 8] = [1, 1, 0, 0, 0, 1, 1, 0];

@@ -1,12 +1,12 @@
 use crate::generator::Generator;
-use crate::lengths::{area, digit_words};
-use crate::maker::{make_keys, sample_counts};
+use crate::lengths::digit_words;
+use crate::maker::{KeyMemory, make_keys, sample_counts};
 use crate::product::turn_all;
 use crate::seal::{open, seal};
-use crate::toy::{INVERSE, RING_SECRET, SMALL_SECRET, TOY};
+use crate::toy::{SECRETS, TOY};
 use faults::fault::Fault;
 use gate::bootstrap::gate;
-use gate::letter::Letter;
+use gate::letter::{Letter, NotALetter};
 use set::checked::Set;
 use std::alloc::{AllocError, Global};
 use std::io;
@@ -21,6 +21,7 @@ pub enum Failure {
     Refused(Fault),
     Memory(AllocError),
     Output(io::Error),
+    NoGate(NotALetter),
 }
 
 impl From<Fault> for Failure {
@@ -41,22 +42,46 @@ impl From<io::Error> for Failure {
     }
 }
 
-// A set with its keys, and the memory that a gate is lent.
+impl From<NotALetter> for Failure {
+    fn from(error: NotALetter) -> Failure {
+        Failure::NoGate(error)
+    }
+}
+
+// What seals bits of the toy set, with memory for random words.
+#[derive(Drop)]
+struct Sealer {
+    generator: Generator,
+    randoms: Vec<i32>,
+}
+
+impl Sealer {
+    // A ciphertext of a bit, of fresh random words and noise.
+    fn seal(&mut self, set: &Set, bit: bool, out: &mut [u16]) -> Result<(), Fault> {
+        self.generator.fill_below(TOY.small, &mut self.randoms);
+        let noise = self.generator.within(TOY.bound);
+        seal(set, bit, SECRETS.s, &self.randoms, noise, out)
+    }
+}
+
+// The memory that a gate is lent.
+#[derive(Drop)]
+struct Room {
+    small: Vec<u16>,
+    work: Vec<u32>,
+    scratch: Vec<u32>,
+}
+
+// A set with its keys, two ciphertexts and their gate, and the memory that a gate is lent.
 #[derive(Drop)]
 pub struct World {
     set: Set,
-    generator: Generator,
-    start: Vec<u32>,
-    selectors: Vec<u32>,
-    rows: Vec<u32>,
-    randoms: Vec<i32>,
+    sealer: Sealer,
+    keys: KeyMemory,
     x: Vec<u16>,
     y: Vec<u16>,
     out: Vec<u16>,
-    small: Vec<u16>,
-    work: Vec<u32>,
-    part: Vec<u32>,
-    scratch: Vec<u32>,
+    room: Room,
 }
 
 impl World {
@@ -72,25 +97,24 @@ impl World {
     fn empty(heap: Global, set: Set) -> Result<World, AllocError> {
         let n = set.degree();
         let ciphertext = set.dimension() + 1;
-        let size = digit_words(set.digits(), n);
-        let selectors = area(Paired::selectors(&set.within), size);
-        let rows = area(n, digit_words(set.places(), ciphertext));
-        let work = size + 4 * n + ciphertext + 2;
+        let work = digit_words(set.digits(), n) + 4 * n + ciphertext + 2;
         let randoms = set.dimension();
+        let keys = KeyMemory::new::<Paired>(heap, &set)?;
         Ok(World {
             set,
-            generator: Generator::new(),
-            start: vec![in heap; 0; size]?,
-            selectors: vec![in heap; 0; selectors]?,
-            rows: vec![in heap; 0; rows]?,
-            randoms: vec![in heap; 0; randoms]?,
+            sealer: Sealer {
+                generator: Generator::new(),
+                randoms: vec![in heap; 0; randoms]?,
+            },
+            keys,
             x: vec![in heap; 0; ciphertext]?,
             y: vec![in heap; 0; ciphertext]?,
             out: vec![in heap; 0; ciphertext]?,
-            small: vec![in heap; 0; ciphertext]?,
-            work: vec![in heap; 0; work]?,
-            part: vec![in heap; 0; n]?,
-            scratch: vec![in heap; 0; n]?,
+            room: Room {
+                small: vec![in heap; 0; ciphertext]?,
+                work: vec![in heap; 0; work]?,
+                scratch: vec![in heap; 0; n]?,
+            },
         })
     }
 
@@ -98,56 +122,30 @@ impl World {
     fn make(&mut self, heap: Global) -> Result<(), Failure> {
         let (noises, rows) = sample_counts::<Paired>(&self.set);
         let mut samples = vec![in heap; 0i32; noises + rows]?;
-        self.generator.fill_samples(&TOY, noises, &mut samples);
+        let (noises, rows) = samples.split_at_mut(noises);
+        let generator = &mut self.sealer.generator;
+        generator.fill_within(TOY.noise, noises);
+        generator.fill_rows(&TOY, rows);
+        let mut noise = vec![in heap; 0u32; self.set.degree()]?;
         make_keys::<Paired>(
             &self.set,
-            &RING_SECRET,
-            &INVERSE,
-            &SMALL_SECRET,
+            SECRETS,
             &samples,
-            &mut self.start,
-            &mut self.selectors,
-            &mut self.rows,
-            &mut self.part,
-            &mut self.scratch,
+            &mut self.keys,
+            &mut noise,
+            &mut self.room.scratch,
         )?;
-        turn_all(
-            &Transform,
-            self.set.ring(),
-            self.set.degree(),
-            &mut self.start,
-            &mut self.scratch,
-        )?;
-        turn_all(
-            &Transform,
-            self.set.ring(),
-            self.set.degree(),
-            &mut self.selectors,
-            &mut self.scratch,
-        )?;
+        let ring = self.set.ring();
+        let scratch = &mut self.room.scratch;
+        turn_all(&Transform, ring, &mut self.keys.start, scratch)?;
+        turn_all(&Transform, ring, &mut self.keys.selectors, scratch)?;
         Ok(())
     }
 
     // Seals two bits, computes their gate and opens the result.
     pub fn opened(&mut self, letter: Letter, x: bool, y: bool) -> Result<bool, Fault> {
-        self.generator.fill_below(TOY.small, &mut self.randoms);
-        seal(
-            &self.set,
-            x,
-            &SMALL_SECRET,
-            &self.randoms,
-            self.generator.within(TOY.bound),
-            &mut self.x,
-        )?;
-        self.generator.fill_below(TOY.small, &mut self.randoms);
-        seal(
-            &self.set,
-            y,
-            &SMALL_SECRET,
-            &self.randoms,
-            self.generator.within(TOY.bound),
-            &mut self.y,
-        )?;
+        self.sealer.seal(&self.set, x, &mut self.x)?;
+        self.sealer.seal(&self.set, y, &mut self.y)?;
         gate(
             &Transform,
             &Paired,
@@ -156,13 +154,11 @@ impl World {
             &self.x,
             &self.y,
             &mut self.out,
-            &self.start,
-            &self.selectors,
-            &self.rows,
-            &mut self.small,
-            &mut self.work,
-            &mut self.scratch,
+            self.keys.lend(),
+            &mut self.room.small,
+            &mut self.room.work,
+            &mut self.room.scratch,
         )?;
-        open(&self.set, &self.out, &SMALL_SECRET)
+        open(&self.set, &self.out, SECRETS.s)
     }
 }

@@ -1,41 +1,62 @@
-use faults::fault::{Fault, Layer, Place};
+use faults::fault::Fault;
 use std::alloc::{AllocError, Global};
+use std::error::Error;
+use std::fmt;
+use std::num::{ParseIntError, TryFromIntError};
 
-pub fn unknown(heap: Global) -> Result<String, AllocError> {
-    String::from_str(heap, "unknown")
+// Why a question has no `ok`, or none at all for want of memory.
+#[derive(Debug, Drop)]
+pub enum Failure {
+    Unknown,
+    Refused(Fault),
+    KernelsDiffer,
+    Memory(AllocError),
 }
 
-// A layer's name.
-fn layer_name(layer: Layer) -> &'static str {
-    match layer {
-        Layer::Image => "image",
-        Layer::Set => "set",
-        Layer::Digits => "digits",
-        Layer::Kernel => "kernel",
-        Layer::Sweep => "sweep",
-        Layer::Gate => "gate",
-        Layer::File => "file",
-        Layer::Runner => "runner",
-        Layer::Runs => "runs",
-        Layer::Secrets => "secrets",
+impl fmt::Display for Failure {
+    fn fmt<W: fmt::Write>(&self, f: &mut fmt::Formatter<W>) -> fmt::Result {
+        match self {
+            Failure::Unknown => f.write_str("unknown"),
+            Failure::Refused(fault) => write!(f, "{fault}"),
+            Failure::KernelsDiffer => f.write_str("kernels differ"),
+            Failure::Memory(error) => write!(f, "{error}"),
+        }
     }
 }
 
-// A refusal: cause, place and layer.
-pub fn refused(heap: Global, fault: Fault) -> Result<String, AllocError> {
-    let number = fault.number();
-    let layer = layer_name(fault.layer());
-    match fault.place() {
-        Place::At(place) => format!(in heap; "fault {number} {place} {layer}"),
-        Place::Entry(list, entry) => format!(in heap; "fault {number} {list},{entry} {layer}"),
+impl Error for Failure {}
+
+impl From<Fault> for Failure {
+    fn from(fault: Fault) -> Failure {
+        Failure::Refused(fault)
     }
 }
 
-// `ok` and some words.
-pub fn words(heap: Global, all: &Vec<u32>) -> Result<String, AllocError> {
+impl From<AllocError> for Failure {
+    fn from(error: AllocError) -> Failure {
+        Failure::Memory(error)
+    }
+}
+
+// A text that is no number.
+impl From<ParseIntError> for Failure {
+    fn from(_error: ParseIntError) -> Failure {
+        Failure::Unknown
+    }
+}
+
+// A number that its type cannot hold.
+impl From<TryFromIntError> for Failure {
+    fn from(_error: TryFromIntError) -> Failure {
+        Failure::Unknown
+    }
+}
+
+// `ok` and what a list holds.
+pub fn list<T: fmt::Display>(heap: Global, items: &[T]) -> Result<String, Failure> {
     let mut text = String::from_str(heap, "ok")?;
-    for word in all {
-        text.push_str(format!(in heap; " {word}")?.as_str())?;
+    for item in items {
+        write!(text, " {item}")?;
     }
     Ok(text)
 }

@@ -1,7 +1,7 @@
-use crate::answer;
-use crate::numbers::word;
+use crate::answer::{self, Failure};
+use crate::numbers::words;
 use faults::fault::Fault;
-use std::alloc::{AllocError, Global};
+use std::alloc::Global;
 use words::gadget::Gadget;
 use words::modulus::Modulus;
 use words::rounding::rounded;
@@ -15,37 +15,16 @@ fn gadget(modulus: u32, dropped: u32, base: u32, digits: u32) -> Result<Gadget, 
     }
 }
 
-// The digits of a word by a gadget.
-fn split(heap: Global, gadget: &Gadget, word: u32) -> Result<String, AllocError> {
-    let mut out = vec![in heap; 0i64; gadget.digits as usize]?;
-    if let Err(fault) = gadget.split(word, &mut out) {
-        return answer::refused(heap, fault);
-    }
-    let mut text = String::from_str(heap, "ok")?;
-    for digit in &out {
-        text.push_str(format!(in heap; " {digit}")?.as_str())?;
-    }
-    Ok(text)
-}
-
 // digits R P B d word
-pub fn digits(heap: Global, all: &Vec<i64>) -> Result<String, AllocError> {
-    let (Some(r), Some(p), Some(b), Some(d), Some(x)) = (
-        word(all, 0),
-        word(all, 1),
-        word(all, 2),
-        word(all, 3),
-        word(all, 4),
-    ) else {
-        return answer::unknown(heap);
-    };
-    if all.len() != 5 || (r % 2 == 0 && p != 1) {
-        return answer::unknown(heap);
+pub fn digits(heap: Global, all: &[i64]) -> Result<String, Failure> {
+    let [modulus, dropped, base, count, word] = words::<5>(all)?;
+    if modulus % 2 == 0 && dropped != 1 {
+        return Err(Failure::Unknown);
     }
-    match gadget(r, p, b, d) {
-        Err(fault) => answer::refused(heap, fault),
-        Ok(gadget) => split(heap, &gadget, x),
-    }
+    let gadget = gadget(modulus, dropped, base, count)?;
+    let mut digits = vec![in heap; 0i64; gadget.digits as usize]?;
+    gadget.split(word, &mut digits)?;
+    answer::list(heap, &digits)
 }
 
 // A gadget with this base, whose other numbers are right.
@@ -55,39 +34,20 @@ fn with_base(base: u32) -> Result<Gadget, Fault> {
 }
 
 // step u B
-pub fn step(heap: Global, all: &Vec<i64>) -> Result<String, AllocError> {
-    let (Some(u), Some(base)) = (all.get(0), word(all, 1)) else {
-        return answer::unknown(heap);
+pub fn step(heap: Global, all: &[i64]) -> Result<String, Failure> {
+    let &[number, base] = all else {
+        return Err(Failure::Unknown);
     };
-    if all.len() != 2 {
-        return answer::unknown(heap);
-    }
-    match with_base(base) {
-        Err(fault) => answer::refused(heap, fault),
-        Ok(gadget) => {
-            let (digit, rest) = gadget.step(*u);
-            format!(in heap; "ok {digit} {rest}")
-        }
-    }
-}
-
-// A word rounded from one modulus to another, both checked.
-fn round_word(c: u32, from: u32, to: u32) -> Result<u32, Fault> {
-    let from = Modulus::checked(from)?;
-    let to = Modulus::checked(to)?;
-    Ok(rounded(c, &from, &to))
+    let gadget = with_base(u32::try_from(base)?)?;
+    let (digit, rest) = gadget.step(number);
+    Ok(format!(in heap; "ok {digit} {rest}")?)
 }
 
 // round R R' c
-pub fn round(heap: Global, all: &Vec<i64>) -> Result<String, AllocError> {
-    let (Some(from), Some(to), Some(c)) = (word(all, 0), word(all, 1), word(all, 2)) else {
-        return answer::unknown(heap);
-    };
-    if all.len() != 3 {
-        return answer::unknown(heap);
-    }
-    match round_word(c, from, to) {
-        Err(fault) => answer::refused(heap, fault),
-        Ok(r) => format!(in heap; "ok {r}"),
-    }
+pub fn round(heap: Global, all: &[i64]) -> Result<String, Failure> {
+    let [from, to, word] = words::<3>(all)?;
+    let from = Modulus::checked(from)?;
+    let to = Modulus::checked(to)?;
+    let word = rounded(word, &from, &to);
+    Ok(format!(in heap; "ok {word}")?)
 }

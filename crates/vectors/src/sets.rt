@@ -1,59 +1,60 @@
-ghost use Rattle.std.specs.Prelude.{◌≤◌};
-
-use crate::answer;
-use crate::numbers::word;
-use set::checked::Set;
+use crate::answer::Failure;
+use crate::numbers::words;
 use set::numbers::Numbers;
 use set::{check, noises};
-use std::alloc::{AllocError, Global};
+use std::alloc::Global;
 
-// Sixteen numbers from a place on.
-pub fn sixteen(all: &Vec<i64>, at: usize) -> Option<Numbers>
-    requires { at ≤ 16 }
-{
-    Some(Numbers {
-        degree: word(all, at)?,
-        dimension: word(all, at + 1)?,
-        small: word(all, at + 2)?,
-        modulus: word(all, at + 3)?,
-        root: word(all, at + 4)?,
-        dropped: word(all, at + 5)?,
-        base: word(all, at + 6)?,
-        digits: word(all, at + 7)?,
-        noise: word(all, at + 8)?,
-        weight: word(all, at + 9)?,
-        ones: word(all, at + 10)?,
-        switch: word(all, at + 11)?,
-        radix: word(all, at + 12)?,
-        places: word(all, at + 13)?,
-        jitter: word(all, at + 14)?,
-        bound: word(all, at + 15)?,
-    })
+// Sixteen words as the numbers of a set, in their order.
+fn numbers_of(words: [u32; 16]) -> Numbers {
+    let [
+        degree,
+        dimension,
+        small,
+        modulus,
+        root,
+        dropped,
+        base,
+        digits,
+        noise,
+        weight,
+        ones,
+        switch,
+        radix,
+        places,
+        jitter,
+        bound,
+    ] = words;
+    Numbers {
+        degree,
+        dimension,
+        small,
+        modulus,
+        root,
+        dropped,
+        base,
+        digits,
+        noise,
+        weight,
+        ones,
+        switch,
+        radix,
+        places,
+        jitter,
+        bound,
+    }
 }
 
-// Stated noise, V and W of a checked set.
-fn told(heap: Global, set: &Set) -> Result<String, AllocError> {
+// set SWEEP and sixteen numbers: stated noise, V and W of the checked set
+pub fn set(heap: Global, all: &[i64]) -> Result<String, Failure> {
+    let (sweep, rest) = all.split_first().ok_or(Failure::Unknown)?;
+    let numbers = numbers_of(words(rest)?);
+    let set = match sweep {
+        1 => check::single(numbers)?,
+        2 => check::paired(numbers)?,
+        _ => return Err(Failure::Unknown),
+    };
     let stated = set.stated;
     let swept = noises::swept(&set.within, stated);
     let switched = noises::switched(&set.within);
-    format!(in heap; "ok {stated} {swept} {switched}")
-}
-
-// set SWEEP and sixteen numbers
-pub fn set(heap: Global, all: &Vec<i64>) -> Result<String, AllocError> {
-    let Some(numbers) = sixteen(all, 1) else {
-        return answer::unknown(heap);
-    };
-    if all.len() != 17 {
-        return answer::unknown(heap);
-    }
-    let checked = match word(all, 0) {
-        Some(1) => check::single(numbers),
-        Some(2) => check::paired(numbers),
-        _ => return answer::unknown(heap),
-    };
-    match checked {
-        Err(fault) => answer::refused(heap, fault),
-        Ok(set) => told(heap, &set),
-    }
+    Ok(format!(in heap; "ok {stated} {swept} {switched}")?)
 }
