@@ -10,6 +10,7 @@ pub mod keys;
 pub mod laws;
 mod lengths;
 pub mod letter;
+mod parts;
 mod refresh;
 pub mod stages;
 mod switching;

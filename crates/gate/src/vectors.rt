@@ -1,7 +1,5 @@
-ghost use Rattle.std.specs.Prelude.{◌≡◌, ℕ, suc, ◌+◌, ◌-◌, ◌*◌, ◌/◌, ◌%◌, ◌^◌, ◌<◌, ◌≤◌, length, take, drop, pos, ◌+ℤ◌, ◌-ℤ◌, ◌*ℤ◌, if◌then◌else◌, nat_eq};
-ghost use Rattle.std.proofs.Math.Seq.{paste};
+ghost use Rattle.std.specs.Prelude.{◌≡◌, ℕ, suc, ⊤, map, ◌+◌, ◌-◌, ◌*◌, ◌/◌, ◌%◌, ◌^◌, ◌<◌, ◌≤◌, length, take, drop, pos, ◌+ℤ◌, ◌-ℤ◌, ◌*ℤ◌, if◌then◌else◌, nat_eq};
 ghost use Rattle.algebra.specs.Words.{coeffs, word_of};
-ghost use Rattle.gate.specs.Gates.{Apart};
 ghost use Rattle.algebra.specs.Gates.{combine, invert, extracted, extract, narrow};
 
 use words::modulus::Modulus;
@@ -53,39 +51,20 @@ pub fn combine_words(
     ensures { out.new ≡ combine last modulus offset times x.now y.now }
 {
     let head = offset * (modulus / 8);
-    for i in 0..out.len() {
-        out[i] = minus(at_last(i, last, head), added(times, x[i], y[i]), modulus) as u16;
+    for (i, word) in out.iter_mut().enumerate() {
+        *word = minus(at_last(i, last, head), added(times, x[i], y[i]), modulus) as u16;
     }
 }
 
-// n + 1 words of the opposite bit.
-pub fn invert_words(last: usize, modulus: u32, x: &[u16], out: &mut [u16])
+// n + 1 words become those of the opposite bit.
+pub fn invert_words(last: usize, modulus: u32, words: &mut [u16])
     requires some { 0 < modulus }
     requires few { modulus ≤ 2048 }
-    requires x { length x.now ≡ last + 1 }
-    requires out { length out.old ≡ last + 1 }
-    ensures { out.new ≡ invert last modulus x.now }
+    requires words { length words.old ≡ last + 1 }
+    ensures { words.new ≡ invert last modulus words.old }
 {
-    for i in 0..out.len() {
-        out[i] = minus(at_last(i, last, modulus / 4), x[i] as u32, modulus) as u16;
-    }
-}
-
-// The same within one memory, from one part to another, which may be the same.
-pub fn invert_part(last: usize, modulus: u32, from: usize, to: usize, words: &mut [u16])
-    requires some { 0 < modulus }
-    requires few { modulus ≤ 2048 }
-    requires from { from + (last + 1) ≤ length words.old }
-    requires to { to + (last + 1) ≤ length words.old }
-    requires apart { Apart (last + 1) from to }
-    ensures { words.new ≡ paste words.old to (invert last modulus (take (last + 1) (drop from words.old))) (last + 1) }
-{
-    for i in 0..last + 1 {
-        words[to + i] = minus(
-            at_last(i, last, modulus / 4),
-            words[from + i] as u32,
-            modulus,
-        ) as u16;
+    for (i, word) in words.iter_mut().enumerate() {
+        *word = minus(at_last(i, last, modulus / 4), *word as u32, modulus) as u16;
     }
 }
 
@@ -116,28 +95,49 @@ pub fn extract_words(degree: usize, modulus: u32, acc: &[u32], out: &mut [u32])
     requires out { length out.old ≡ degree + 1 }
     ensures { out.new ≡ extract degree modulus acc.now }
 {
-    for j in 0..out.len() {
-        out[j] = extracted_at(degree, modulus, acc, j);
+    for (j, word) in out.iter_mut().enumerate() {
+        *word = extracted_at(degree, modulus, acc, j);
+    }
+}
+
+// A number of some bits.
+pub trait Word: Drop {
+    ghost number: { Self → ℕ };
+
+    ghost CanHold: { ℕ → Type 0 };
+
+    fn of(value: u32) -> Self
+        requires { CanHold value }
+        ensures { number result ≡ value };
+}
+
+impl Word for u32 {
+    ghost number = { λ x. x };
+
+    ghost CanHold = { λ _. ⊤ };
+
+    fn of(value: u32) -> u32 {
+        value
+    }
+}
+
+impl Word for u16 {
+    ghost number = { λ x. x };
+
+    ghost CanHold = { λ n. n < 2 ^ 16 };
+
+    fn of(value: u32) -> u16 {
+        value as u16
     }
 }
 
 // Words of one modulus rounded to another.
-pub fn narrow_words(from: &Modulus, to: &Modulus, words: &[u32], out: &mut [u32])
-    requires { length words.now ≡ length out.old }
-    ensures { out.new ≡ narrow (length out.old) from.now.value to.now.value words.now }
-{
-    for i in 0..out.len() {
-        out[i] = rounded(words[i], from, to);
-    }
-}
-
-// The same to words of 16 bits.
-pub fn finish_words(from: &Modulus, to: &Modulus, words: &[u32], out: &mut [u16])
-    requires few { to.now.value ≤ 2048 }
+pub fn narrow_words<W: Word>(from: &Modulus, to: &Modulus, words: &[u32], out: &mut [W])
+    requires few { (n : ℕ) → n < to.now.value → W.CanHold n }
     requires pair { length words.now ≡ length out.old }
-    ensures { out.new ≡ narrow (length out.old) from.now.value to.now.value words.now }
+    ensures { map W.number out.new ≡ narrow (length out.old) from.now.value to.now.value words.now }
 {
-    for i in 0..out.len() {
-        out[i] = rounded(words[i], from, to) as u16;
+    for (i, word) in out.iter_mut().enumerate() {
+        *word = W::of(rounded(words[i], from, to));
     }
 }
