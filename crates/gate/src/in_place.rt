@@ -110,7 +110,7 @@ fn invert_at_right(set: &Set, x: usize, z: usize, registers: &mut [u16])
     let from = x * words;
     let to = z * words;
     registers.copy_within(from..from + words, to);
-    invert_words(set.dimension(), set.small(), &mut registers[to..to + words]);
+    invert_words(set.dimension(), set.least(), &mut registers[to..to + words]);
 }
 
 // The opposite bit of register x, written to register z, which may be the same.

@@ -17,7 +17,7 @@ fn invert_right(set: &Set, x: &[u16], out: &mut [u16])
     ensures holds { InvertHolds set.now.within x.now out.new }
 {
     out.copy_from_slice(x);
-    invert_words(set.dimension(), set.small(), out);
+    invert_words(set.dimension(), set.least(), out);
 }
 
 // The words -a_i and q/4 - b of a ciphertext: the opposite bit, with the same noise.

@@ -6,6 +6,7 @@ ghost use Rattle.gate.specs.Stages.{switch_words, split_by, rows_of, all_rows_of
 
 use crate::parts::part_of;
 use words::gadget::Gadget;
+use words::modulus::Modulus;
 
 // A digit as a word of 32 bits.
 fn wrapped(digit: i64) -> u32
@@ -83,12 +84,11 @@ fn begin(last: usize, word: u32, out: &mut [u32])
 }
 
 // Each word becomes its remainder.
-fn settle(modulus: u32, out: &mut [u32])
-    requires { 0 < modulus }
-    ensures { out.new ≡ reduced (length out.old) modulus out.old }
+fn settle(modulus: Modulus, out: &mut [u32])
+    ensures { out.new ≡ reduced (length out.old) modulus.value out.old }
 {
     for word in out.iter_mut() {
-        *word %= modulus;
+        *word %= modulus.value;
     }
 }
 
@@ -113,5 +113,5 @@ pub fn switch_words(
     let places = gadget.digits as usize;
     begin(last, words[degree], out);
     add_words(gadget, &words[0..degree], &mut digits[0..places], rows, out);
-    settle(gadget.modulus.get(), out);
+    settle(gadget.modulus, out);
 }

@@ -25,7 +25,7 @@ pub(crate) fn combine_right(
 {
     combine_words(
         set.dimension(),
-        set.small(),
+        set.least(),
         letter.offset(),
         letter.times(),
         x,

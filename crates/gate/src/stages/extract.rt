@@ -16,7 +16,7 @@ pub(crate) fn extract_right(set: &Set, acc: &mut [u32], out: &mut [u32], token: 
     ensures out { out.new ≡ extracted_of set.now.within.numbers acc.old }
 {
     let Swept { words: _ } = token;
-    extract_words(set.degree(), set.wide().get(), acc, out);
+    extract_words(set.degree(), set.wide(), acc, out);
     acc.fill(0);
     Extracted { words: out.len() }
 }

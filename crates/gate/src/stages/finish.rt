@@ -15,7 +15,7 @@ pub(crate) fn finish_right(set: &Set, words: &mut [u32], out: &mut [u16], token:
     ensures out { out.new ≡ finished_of set.now.within.numbers words.old }
 {
     let Switched { words: _ } = token;
-    narrow_words(&set.middle(), &set.least(), words, out);
+    narrow_words(set.middle(), set.least(), words, out);
     words.fill(0);
 }
 

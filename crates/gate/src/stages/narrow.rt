@@ -21,7 +21,7 @@ pub(crate) fn narrow_right(
     ensures out { out.new ≡ narrowed_of set.now.within.numbers words.old }
 {
     let Extracted { words: _ } = token;
-    narrow_words(&set.wide(), &set.middle(), words, out);
+    narrow_words(set.wide(), set.middle(), words, out);
     words.fill(0);
     Narrowed { words: out.len() }
 }

@@ -29,7 +29,7 @@ fn begin(set: &Set, word: u16, acc: &mut [u32])
     requires { length acc.old ≡ set.now.within.numbers.degree }
     ensures { acc.new ≡ beginning set.now.within.numbers.degree set.now.within.numbers.modulus (turns set.now.within.numbers word) }
 {
-    begin_words(set.wide().get(), exponent_of(set, word), acc);
+    begin_words(set.wide(), exponent_of(set, word), acc);
 }
 
 // Taken by the start key.

@@ -8,8 +8,8 @@ pub returns : goal.returns
 returns c =
     let w = c.args.set.now.within in
     let e = c.invert_words.ensures
-    ∙ ap (λ (xs : List ℕ). invert c.dimension.result c.small.result xs) c.copy_from_slice.ensures.after
-    ∙ ap₂ (λ (n q : ℕ). invert n q c.args.x.now) c.dimension.ensures.value c.small.ensures.value in
+    ∙ ap (λ (xs : List ℕ). invert c.dimension.result c.least.result.value xs) c.copy_from_slice.ensures.after
+    ∙ ap₂ (λ (n q : ℕ). invert n q c.args.x.now) c.dimension.ensures.value c.least.ensures in
     record {
       words = e;
       holds = subst (λ (r : List ℕ). InvertHolds w c.args.x.now r) (sym e) (inverts w c.args.x.now);

@@ -16,9 +16,11 @@ returns g c =
     let e = c.settle.ensures ∙ ap (λ (acc : List ℕ). settled_of n rows acc) c.rotate-swept.ensures in
     record {
       words = e;
-      gate = λ l xs ys h. let w = e ∙ gate_from g.S.Sweep.defined n l start keys rows xs ys c.args.combined.now h in
-          (w, subst (λ (r : List ℕ). GateHolds g.S.Sweep.noise g.S.Sweep.count g.S.Sweep.message set l start keys rows xs ys r) (sym w)
-          (gate_holds g.S.Sweep.defined g.S.Sweep.noise g.S.Sweep.count g.S.Sweep.message g.met.S.Sweep.means set l start keys rows xs ys
-          (read_long (g.K.Kernel.reads set.ring) n.degree many c.args.self.now.keys.selectors.now)
-          (read_polys g.K.Kernel.reads g.K.Kernel.form g.met.K.Kernel.forms set many c.args.self.now.keys.selectors.now)));
+      gate = λ l xs ys h. let w = e ∙ gate_from g.S.Sweep.defined n l start keys rows xs ys c.args.combined.now h in (
+        w,
+        subst (λ (r : List ℕ). GateHolds g.S.Sweep.noise g.S.Sweep.count g.S.Sweep.message set l start keys rows xs ys r) (sym w)
+            (gate_holds g.S.Sweep.defined g.S.Sweep.noise g.S.Sweep.count g.S.Sweep.message g.met.S.Sweep.means set l start keys rows xs ys
+            (read_long (g.K.Kernel.reads set.ring) n.degree many c.args.self.now.keys.selectors.now)
+            (read_polys g.K.Kernel.reads g.K.Kernel.form g.met.K.Kernel.forms set many c.args.self.now.keys.selectors.now)),
+      );
     }
