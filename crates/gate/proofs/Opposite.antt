@@ -13,6 +13,7 @@ use Rattle.gate.specs.Letters.{num_of}
 use Rattle.gate.specs.Lengths.{words_of}
 use Rattle.gate.specs.Stages.{inverted_of}
 use Rattle.gate.specs.Gates.{InvertHolds, register_at, with_register}
+use Rattle.gate.proofs.Holding.{num_bit}
 use Rattle.gate.proofs.Reach.{register_new, register_again, put_register}
 
 pub inverts : (w : Within) (xs : List ℕ) → InvertHolds w xs (inverted_of w.numbers xs)
@@ -23,10 +24,6 @@ inverts w xs = record {
       (invert_holds w.numbers.dimension w.numbers.small V (num_of m) (entries s) xs some (num_bit m) h);
 }
   where
-    num_bit : (b : Bool) → num_of b ≤ 1
-    num_bit true = omega arith
-    num_bit false = omega arith
-
     opposite : (b : Bool) → 1 - num_of b ≡ num_of (not b)
     opposite true = refl
     opposite false = refl
