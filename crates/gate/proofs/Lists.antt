@@ -1,7 +1,9 @@
 -- The first list of another length.
-use Rattle.std.proofs.Common.{◌≡◌, ℕ, zero, suc, ◌+◌, ◌<◌, ◌≤◌, Bool, eqb, ◌≢◌, ◌⊎◌, List, [], ◌∷◌, length, get_or, take, drop, Some, None, refl, ap, ◌∙◌, inl, inr, arith, eq-eqb, ne_eqb}
-use Rattle.std.proofs.lemmas.List.{drop_more, drop_all}
-use Rattle.std.proofs.ByRecursion.{All-more}
+use Rattle.std.proofs.Common.{◌≡◌, ℕ, zero, suc, ◌+◌, ◌<◌, ◌≤◌, Bool, true, false, cond, not, eqb, ◌≢◌, ◌⊎◌, List, [], ◌∷◌, length, get_or, take, drop, Some, None, Option, sym, refl, ap, ◌∙◌, inl, inr, arith, eq-eqb, ne_eqb}
+use Rattle.std.specs.List.{position, position_from}
+use Rattle.std.proofs.lemmas.Iterator.Adapters.{position_from-zero}
+use Rattle.std.specs.Option.{option_map}
+use Rattle.std.proofs.lemmas.Bool.{eqb-true}
 use Rattle.faults.specs.declared.fault.Fault.{Fault}
 use Rattle.faults.specs.declared.fault.Fault.TheVariants.{Length}
 use Rattle.faults.specs.declared.fault.Layer.TheVariants.{Gate}
@@ -9,30 +11,35 @@ use Rattle.faults.specs.Least.{Least, or_else, unless}
 use Rattle.faults.proofs.Least.{least_or, least_same, least_length, no_later_by}
 use Rattle.gate.specs.Lengths.{first_wrong, AllRight, WrongLengths, LengthsLeast}
 
--- one list more that is right, and the first that is not
-pub wrong_next : (ls : List (ℕ × ℕ)) (i : ℕ) → i < length ls → (get_or ls i (0, 0)).0 ≡ (get_or ls i (0, 0)).1
-    → first_wrong i (drop i ls) ≡ first_wrong (i + 1) (drop (i + 1) ls)
-wrong_next ls i l e =
-    let p : ℕ × ℕ = get_or ls i (0, 0) in
-    ap (first_wrong i) (drop_more ls i (0, 0) l)
-    ∙ ap (λ (b : Bool). or_else (unless b (Length i Gate)) (first_wrong (i + 1) (drop (i + 1) ls))) (eq-eqb p.0 p.1 e)
+-- a list of another length than the right one
+abbrev pub differs : ℕ × ℕ → Bool
+differs l = not (eqb l.0 l.1)
 
-pub wrong_here : (ls : List (ℕ × ℕ)) (i : ℕ) → i < length ls → (get_or ls i (0, 0)).0 ≢ (get_or ls i (0, 0)).1
-    → first_wrong i (drop i ls) ≡ Some (Length i Gate)
-wrong_here ls i l e =
-    let p : ℕ × ℕ = get_or ls i (0, 0) in
-    ap (first_wrong i) (drop_more ls i (0, 0) l)
-    ∙ ap (λ (b : Bool). or_else (unless b (Length i Gate)) (first_wrong (i + 1) (drop (i + 1) ls))) (ne_eqb p.0 p.1 e)
+-- the first of them is the first wrong list
+pub wrong_at : (s : ℕ) (ls : List (ℕ × ℕ)) → first_wrong s ls ≡ option_map (λ i. Length i Gate) (position_from differs s ls)
+wrong_at s [] = refl
+wrong_at s (l ∷ ls) =
+    elim (eqb l.0 l.1) as (λ b. or_else (unless b (Length s Gate)) (first_wrong (s + 1) ls) ≡ option_map (λ i. Length i Gate) (cond (not b) (Some s) (position_from differs (s + 1) ls))) [
+      | true ↦ wrong_at (s + 1) ls
+      | false ↦ refl
+    ]
 
-pub wrong_none : (ls : List (ℕ × ℕ)) (i : ℕ) → length ls ≤ i → first_wrong i (drop i ls) ≡ None
-wrong_none ls i l = ap (first_wrong i) (drop_all i ls l)
+-- none of them
+right_first : (s : ℕ) (l : ℕ × ℕ) (ls : List (ℕ × ℕ)) (b : Bool) → eqb l.0 l.1 ≡ b → (position_from differs (s + 1) ls ≡ None → AllRight ls)
+    → cond (not b) (Some s) (position_from differs (s + 1) ls) ≡ None → AllRight (l ∷ ls)
+right_first s l ls true h rest e = (eqb-true l.0 l.1 h, rest e)
+right_first s l ls false h rest e = cc
 
-pub right_more : (ls : List (ℕ × ℕ)) (i : ℕ) → i < length ls → (get_or ls i (0, 0)).0 ≡ (get_or ls i (0, 0)).1
-    → AllRight (take i ls) → AllRight (take (i + 1) ls)
-right_more ls i l e h = All-more (λ p. p.0 ≡ p.1) ls i (0, 0) l h e
+pub all_right : (s : ℕ) (ls : List (ℕ × ℕ)) → position_from differs s ls ≡ None → AllRight ls
+all_right s [] e = tt
+all_right s (l ∷ ls) e = right_first s l ls (eqb l.0 l.1) refl (all_right (s + 1) ls) e
 
-pub some_none : (f : Fault) → Some f ≡ None → ⊥
-some_none f e = let z : ◌≡◌ {A = ℕ} 0 1 = cc in omega arith
+-- the answer, told by their first
+pub wrong_by : (ls : List (ℕ × ℕ)) (o : Option ℕ) → o ≡ position differs ls → first_wrong 0 ls ≡ option_map (λ i. Length i Gate) o
+wrong_by ls o e = wrong_at 0 ls ∙ ap (option_map (λ i. Length i Gate)) (sym (e ∙ position_from-zero differs ls))
+
+pub right_by : (ls : List (ℕ × ℕ)) → None ≡ position differs ls → AllRight ls
+right_by ls e = all_right 0 ls (sym (e ∙ position_from-zero differs ls))
 
 -- the same with the lists counted from s on
 abbrev From : ℕ → List (ℕ × ℕ) → Fault → Type 0

@@ -1,5 +1,5 @@
 -- Registers within their memory.
-use Rattle.std.proofs.Common.{◌≡◌, ℕ, ◌+◌, ◌-◌, ◌*◌, ◌≤◌, max, List, ◌++◌, length, take, drop, ap, ◌∙◌, mul-le-mul_right, arith, length-take}
+use Rattle.std.proofs.Common.{◌≡◌, ℕ, ◌+◌, ◌-◌, ◌*◌, ◌≤◌, max, List, ◌++◌, length, take, drop, sym, ap, ap₂, ◌∙◌, mul-le-mul_right, arith, length-take}
 use borrow.Rule.Slice.PartMut.{put_mid}
 use Rattle.std.proofs.lemmas.List.{take_at, drop_at, drop-drop}
 use Rattle.set.specs.declared.numbers.Numbers.{Numbers}
@@ -39,3 +39,15 @@ put_register n registers new z m e =
     ap (λ (w : ℕ). put_mid (z * w) (z * w + w - z * w) registers new) e
     ∙ ap (λ (k : ℕ). put_mid (z * words_of n) k registers new) {x = z * words_of n + words_of n - z * words_of n} {y = words_of n} (omega arith)
     ∙ ap (λ (v : List ℕ). take (z * words_of n) registers ++ (new ++ v)) (drop-drop (words_of n) (z * words_of n) registers)
+
+-- a register that is written twice
+pub register_again : (n : Numbers) (registers old new : List ℕ) (z : ℕ) → z * words_of n + words_of n ≤ length registers → length old ≡ words_of n
+    → with_register n (with_register n registers z old) z new ≡ with_register n registers z new
+register_again n registers old new z l e =
+    let a : ℕ = z * words_of n in
+    let w : ℕ = words_of n in
+    let rest : List ℕ = drop (a + w) registers in
+    let front : length (take (z * words_of n) registers) ≡ z * words_of n = length-take a registers ∙ omega arith in
+    ap₂ (λ (u v : List ℕ). u ++ (new ++ v))
+    (take_at (take a registers) (old ++ rest) a front)
+    (sym (drop-drop w a (with_register n registers z old)) ∙ ap (drop w) (drop_at (take a registers) (old ++ rest) a front) ∙ drop_at old rest w e)

@@ -1,6 +1,8 @@
 -- Rows times digits, added modulo 2^32 and then taken modulo M.
-use Rattle.std.proofs.Common.{◌≡◌, ℕ, ◌+◌, ◌*◌, ◌/◌, ◌%◌, ◌^◌, ◌<◌, ◌≤◌, List, length, get_or, take, drop, ℤ, pos, ◌+ℤ◌, ◌*ℤ◌, neg_ℤ, nat_abs, ◌≤ℤ◌, sym, refl, ap, ◌∙◌, subst, mul-le-mul_right, suc-mul, add-one, arith}
+use Rattle.std.proofs.Common.{◌≡◌, ℕ, ◌+◌, ◌*◌, ◌/◌, ◌%◌, ◌^◌, ◌<◌, ◌≤◌, List, length, get_or, take, drop, ℤ, pos, ◌+ℤ◌, ◌*ℤ◌, neg_ℤ, nat_abs, ◌≤ℤ◌, w64, sym, refl, ap, ◌∙◌, subst, mul-le-mul_right, suc-mul, add-one, arith}
 use borrow.Author.Differences.{ints}
+use Rattle.std.proofs.lemmas.Int.{to_z-of_z}
+use mir.Val.{to_z, of_z}
 use Rattle.std.proofs.lemmas.List.{get_or-take, get_or-drop}
 use Rattle.algebra.proofs.Ring.{*ℤ-assoc}
 use Rattle.algebra.specs.Ints.{Cong, sum_z}
@@ -88,3 +90,7 @@ pub added_lengths : (g : Gadget) (old new xs rows : List ℕ) (N w : ℕ) → le
 added_lengths g old new xs rows N w e f h t l =
     subst (λ (n : ℕ). Cong (2 ^ 32) (pos (get_or new t 0)) (pos (get_or old t 0) +ℤ sum_z n (λ j. all_rows_of g xs w rows j t))) e
     (subst (λ (v : ℕ). Cong (2 ^ 32) (pos (get_or new t 0)) (pos (get_or old t 0) +ℤ sum_z (length xs) (λ j. all_rows_of g xs v rows j t))) f (h t l))
+
+-- a digit as the machine reads it
+pub digit_read : (z : ℤ) → nat_abs z < 2 ^ 31 → to_z w64 (of_z w64 z) ≡ z
+digit_read z h = to_z-of_z w64 z (omega (arith, ints))

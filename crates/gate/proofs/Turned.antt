@@ -17,19 +17,15 @@ turn true δ = refl
 turn false δ = omega (arith, ints)
 
 -- on the first half of the circle, and on the second
-pub first_half : (N Q e k : ℕ) (p : Bool) → e ≤ N → k < N
-    → wrapped N e (test N (pos (Q / 8))) k ≡ cond p (pos (Q / 8)) (neg_ℤ (pos (Q / 8)))
-    → word_of Q (cond p (pos (Q / 8)) (neg_ℤ (pos (Q / 8)))) ≡ word_of Q (power N e (test N (pos (Q / 8))) k)
-first_half N Q e k p a l h = ap (word_of Q) (sym (power_wrapped N e (test N (pos (Q / 8))) a k l ∙ h))
+pub first_half : (N e k : ℕ) (δ : ℤ) (p : Bool) → e ≤ N → k < N → wrapped N e (test N δ) k ≡ cond p δ (neg_ℤ δ)
+    → power N e (test N δ) k ≡ cond p δ (neg_ℤ δ)
+first_half N e k δ p a l h = power_wrapped N e (test N δ) a k l ∙ h
 
-pub second_half : (N Q e k : ℕ) (p : Bool) → N ≤ e → e ≤ N + N → k < N
-    → wrapped N (e - N) (test N (pos (Q / 8))) k ≡ cond p (pos (Q / 8)) (neg_ℤ (pos (Q / 8)))
-    → word_of Q (cond (not p) (pos (Q / 8)) (neg_ℤ (pos (Q / 8)))) ≡ word_of Q (power N e (test N (pos (Q / 8))) k)
-second_half N Q e k p a b l h =
-    let δ : ℤ = pos (Q / 8) in
-    ap (word_of Q) (turn p δ ∙ sym (
-    ap (λ (i : ℕ). power N i (test N (pos (Q / 8))) k) {x = e} {y = N + (e - N)} (omega arith)
-    ∙ power_upper N (e - N) (test N δ) (omega arith) k l ∙ ap neg_ℤ h))
+pub second_half : (N e k : ℕ) (δ : ℤ) (p : Bool) → N ≤ e → e ≤ N + N → k < N → wrapped N (e - N) (test N δ) k ≡ cond p δ (neg_ℤ δ)
+    → power N e (test N δ) k ≡ cond (not p) δ (neg_ℤ δ)
+second_half N e k δ p a b l h =
+    ap (λ (i : ℕ). power N i (test N δ) k) {x = e} {y = N + (e - N)} (omega arith)
+    ∙ power_upper N (e - N) (test N δ) (omega arith) k l ∙ ap neg_ℤ h ∙ sym (turn p δ)
 
 pub beginning_from : (N Q e : ℕ) (out : List ℕ) → length out ≡ N
     → ((k : ℕ) → k < N → get_or out k 0 ≡ word_of Q (power N e (test N (pos (Q / 8))) k)) → out ≡ beginning N Q e

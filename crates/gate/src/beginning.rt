@@ -4,6 +4,7 @@ ghost use Rattle.algebra.specs.Words.{word_of};
 ghost use Rattle.algebra.specs.Gates.{test, beginning};
 
 use crate::vectors::minus;
+use words::modulus::Modulus;
 
 // Whether coefficient k of X^i times the test polynomial is δ, and not -δ. The test polynomial has δ above the middle place.
 fn is_delta(degree: usize, i: usize, k: usize) -> bool
@@ -19,44 +20,43 @@ fn is_delta(degree: usize, i: usize, k: usize) -> bool
     }
 }
 
-// δ or -δ as a word, where δ is an eighth of the modulus, rounded down.
-fn delta(modulus: u32, plus: bool) -> u32
-    requires some { 0 < modulus }
-    requires few { modulus < 2 ^ 31 }
-    ensures { result ≡ word_of modulus (if plus then pos (modulus / 8) else neg_ℤ (pos (modulus / 8))) }
+// The same of X^e, for e below 2N, which turns the signs where e is not below N.
+fn is_turned_delta(degree: usize, exponent: usize, k: usize) -> bool
+    requires turn { exponent < degree + degree }
+    requires place { k < degree }
+    requires few { degree ≤ 1024 }
+    ensures { (δ : ℤ) → power degree exponent (test degree δ) k ≡ (if result then δ else neg_ℤ δ) }
 {
-    if plus {
-        modulus / 8
+    if exponent < degree {
+        is_delta(degree, exponent, k)
     } else {
-        minus(0, modulus / 8, modulus)
+        !is_delta(degree, exponent - degree, k)
     }
 }
 
-// Coefficient k of X^e times the test polynomial, for e below 2N.
-fn coefficient(degree: usize, modulus: u32, exponent: usize, k: usize) -> u32
-    requires some { 0 < modulus }
-    requires few { modulus < 2 ^ 31 }
+// Coefficient k of X^e times the test polynomial, for e below 2N: δ or -δ, where δ is an eighth of the modulus, rounded down.
+fn coefficient(degree: usize, modulus: Modulus, exponent: usize, k: usize) -> u32
     requires turn { exponent < degree + degree }
     requires place { k < degree }
     requires long { degree ≤ 1024 }
-    ensures { result ≡ word_of modulus (power degree exponent (test degree (pos (modulus / 8))) k) }
+    ensures { result ≡ word_of modulus.value (power degree exponent (test degree (pos (modulus.value / 8))) k) }
 {
-    if exponent < degree {
-        delta(modulus, is_delta(degree, exponent, k))
+    let delta = modulus.value / 8;
+    if is_turned_delta(degree, exponent, k) {
+        delta
     } else {
-        delta(modulus, !is_delta(degree, exponent - degree, k))
+        minus(0, delta, modulus)
     }
 }
 
 // X^e times the test polynomial.
-pub fn begin_words(modulus: u32, exponent: usize, out: &mut [u32])
-    requires some { 0 < modulus }
-    requires few { modulus < 2 ^ 31 }
+pub fn begin_words(modulus: Modulus, exponent: usize, out: &mut [u32])
     requires turn { exponent < length out.old + length out.old }
     requires long { length out.old ≤ 1024 }
-    ensures { out.new ≡ beginning (length out.old) modulus exponent }
+    ensures { out.new ≡ beginning (length out.old) modulus.value exponent }
 {
-    for k in 0..out.len() {
-        out[k] = coefficient(out.len(), modulus, exponent, k);
+    let degree = out.len();
+    for (k, word) in out.iter_mut().enumerate() {
+        *word = coefficient(degree, modulus, exponent, k);
     }
 }

@@ -5,7 +5,7 @@ ghost use Rattle.gate.specs.Lengths.{words_of};
 ghost use Rattle.gate.specs.Stages.{inverted_of};
 ghost use Rattle.gate.specs.Gates.{invert_refused, InvertHolds};
 
-use crate::lengths::invert_fault;
+use crate::lengths::{check_lengths, words_of};
 use crate::vectors::invert_words;
 use faults::fault::Fault;
 use set::checked::Set;
@@ -16,7 +16,8 @@ fn invert_right(set: &Set, x: &[u16], out: &mut [u16])
     ensures words { out.new ≡ inverted_of set.now.within.numbers x.now }
     ensures holds { InvertHolds set.now.within x.now out.new }
 {
-    invert_words(set.dimension(), set.small(), x, out);
+    out.copy_from_slice(x);
+    invert_words(set.dimension(), set.least(), out);
 }
 
 // The words -a_i and q/4 - b of a ciphertext: the opposite bit, with the same noise.
@@ -25,9 +26,8 @@ pub fn invert(set: &Set, x: &[u16], out: &mut [u16]) -> Result<(), Fault>
     ensures words { out.new ≡ after result (inverted_of set.now.within.numbers x.now) out.old }
     ensures holds { OnOk result (InvertHolds set.now.within x.now out.new) }
 {
-    if let Some(fault) = invert_fault(set, x.len(), out.len()) {
-        return Err(fault);
-    }
+    let words = words_of(set);
+    check_lengths(&[(x.len(), words), (out.len(), words)])?;
     invert_right(set, x, out);
     Ok(())
 }

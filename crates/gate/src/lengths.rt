@@ -1,21 +1,11 @@
-ghost use Rattle.std.specs.Prelude.{◌≡◌, ℕ, ◌+◌, ◌*◌, ◌^◌, ◌<◌, ◌≤◌, max, length, Some, None};
-ghost use Rattle.faults.specs.declared.fault.Fault.TheVariants.{Length};
-ghost use Rattle.faults.specs.declared.fault.Layer.TheVariants.{Gate};
-ghost use Rattle.gate.specs.Gates.{gate_refused, GateFits, reach_of, gate_at_refused, GateAtFits, invert_refused, invert_at_refused, InvertAtFits};
-ghost use Rattle.gate.specs.Lengths.{words_of, sample_of, start_length, selectors_length, rows_length, sweep_work, gate_work, first_wrong, AllRight, combine_refused, start_refused, sweep_refused, StartFits, SweepFits, extract_refused, narrow_refused, switch_refused, finish_refused};
+ghost use Rattle.std.specs.Prelude.{◌≡◌, ℕ, ◌+◌, ◌*◌, ◌^◌, ◌<◌, ◌≤◌, max, not, length, position, IsOk, IfSome, ◌==◌};
+ghost use Rattle.faults.specs.Least.{refusal};
+ghost use Rattle.gate.specs.Gates.{gate_refused, GateFits, reach_of, gate_at_refused, GateAtFits, invert_at_refused, InvertAtFits};
+ghost use Rattle.gate.specs.Lengths.{words_of, sample_of, start_length, selectors_length, rows_length, sweep_work, gate_work, first_wrong, AllRight, start_refused, sweep_refused, StartFits, SweepFits};
 
+use crate::keys::Keys;
 use faults::fault::{Fault, Layer};
 use set::checked::Set;
-
-// A list that has not the call's length.
-fn wrong(list: u32) -> Option<Fault>
-    ensures { result ≡ Some (Length list Gate) }
-{
-    Some(Fault::Length {
-        list,
-        part: Layer::Gate,
-    })
-}
 
 // n + 1, the words of a ciphertext.
 pub fn words_of(set: &Set) -> usize
@@ -33,87 +23,6 @@ pub fn sample_of(set: &Set) -> usize
     set.degree() + 1
 }
 
-// The words of the switch rows.
-pub fn rows_length(set: &Set) -> usize
-    ensures { result ≡ rows_length set.now.within.numbers }
-{
-    set.degree() * (set.places() * words_of(set))
-}
-
-pub fn combine_fault(set: &Set, x: usize, y: usize, out: usize) -> Option<Fault>
-    ensures answer { result ≡ combine_refused set.now.within.numbers x y out }
-    ensures fits { result ≡ None → (x ≡ words_of set.now.within.numbers) × (y ≡ words_of set.now.within.numbers) × (out ≡ words_of set.now.within.numbers) }
-{
-    let words = words_of(set);
-    if x != words {
-        return wrong(0);
-    }
-    if y != words {
-        return wrong(1);
-    }
-    if out != words {
-        return wrong(2);
-    }
-    None
-}
-
-pub fn extract_fault(set: &Set, acc: usize, out: usize) -> Option<Fault>
-    ensures answer { result ≡ extract_refused set.now.within.numbers acc out }
-    ensures fits { result ≡ None → (acc ≡ set.now.within.numbers.degree) × (out ≡ sample_of set.now.within.numbers) }
-{
-    if acc != set.degree() {
-        return wrong(0);
-    }
-    if out != sample_of(set) {
-        return wrong(1);
-    }
-    None
-}
-
-pub fn narrow_fault(set: &Set, words: usize, out: usize) -> Option<Fault>
-    ensures answer { result ≡ narrow_refused set.now.within.numbers words out }
-    ensures fits { result ≡ None → (words ≡ sample_of set.now.within.numbers) × (out ≡ sample_of set.now.within.numbers) }
-{
-    let sample = sample_of(set);
-    if words != sample {
-        return wrong(0);
-    }
-    if out != sample {
-        return wrong(1);
-    }
-    None
-}
-
-pub fn switch_fault(set: &Set, words: usize, out: usize, rows: usize) -> Option<Fault>
-    ensures answer { result ≡ switch_refused set.now.within.numbers words out rows }
-    ensures fits { result ≡ None → (words ≡ sample_of set.now.within.numbers) × (out ≡ words_of set.now.within.numbers) × (rows ≡ rows_length set.now.within.numbers) }
-{
-    if words != sample_of(set) {
-        return wrong(0);
-    }
-    if out != words_of(set) {
-        return wrong(1);
-    }
-    if rows != rows_length(set) {
-        return wrong(2);
-    }
-    None
-}
-
-pub fn finish_fault(set: &Set, words: usize, out: usize) -> Option<Fault>
-    ensures answer { result ≡ finish_refused set.now.within.numbers words out }
-    ensures fits { result ≡ None → (words ≡ words_of set.now.within.numbers) × (out ≡ words_of set.now.within.numbers) }
-{
-    let right = words_of(set);
-    if words != right {
-        return wrong(0);
-    }
-    if out != right {
-        return wrong(1);
-    }
-    None
-}
-
 // The words of the start key.
 pub fn start_length(set: &Set) -> usize
     ensures { result ≡ start_length set.now.within.numbers }
@@ -129,71 +38,19 @@ pub fn selectors_length(set: &Set, count: usize) -> usize
     count * set.digits() * set.degree()
 }
 
+// The words of the switch rows.
+pub fn rows_length(set: &Set) -> usize
+    ensures { result ≡ rows_length set.now.within.numbers }
+{
+    set.degree() * (set.places() * words_of(set))
+}
+
 // The work memory of a sweep.
 pub fn sweep_work(set: &Set) -> usize
     ensures value { result ≡ sweep_work set.now.within.numbers }
     ensures few { result ≤ 32768 }
 {
     (set.digits() + 1) * set.degree()
-}
-
-// The first list that has not its right length; each list is told by its length and the right one.
-pub fn first_wrong(lists: &[(usize, usize)]) -> Option<Fault>
-    requires { length lists.now ≤ 16 }
-    ensures answer { result ≡ first_wrong 0 lists.now }
-    ensures fits { result ≡ None → AllRight lists.now }
-{
-    for i in 0..lists.len() {
-        let (length, right) = lists[i];
-        if length != right {
-            return wrong(i as u32);
-        }
-    }
-    None
-}
-
-pub fn start_fault(
-    set: &Set,
-    combined: usize,
-    acc: usize,
-    key: usize,
-    work: usize,
-    scratch: usize,
-) -> Option<Fault>
-    ensures answer { result ≡ start_refused set.now.within.numbers combined acc key work scratch }
-    ensures fits { result ≡ None → StartFits set.now.within.numbers combined acc key work scratch }
-{
-    let degree = set.degree();
-    first_wrong(&[
-        (combined, words_of(set)),
-        (acc, degree),
-        (key, start_length(set)),
-        (work, sweep_work(set)),
-        (scratch, degree),
-    ])
-}
-
-pub fn sweep_fault(
-    set: &Set,
-    count: usize,
-    combined: usize,
-    acc: usize,
-    keys: usize,
-    work: usize,
-    scratch: usize,
-) -> Option<Fault>
-    requires { count ≤ 2 ^ 14 }
-    ensures answer { result ≡ sweep_refused set.now.within.numbers count combined acc keys work scratch }
-    ensures fits { result ≡ None → SweepFits set.now.within.numbers count combined acc keys work scratch }
-{
-    let degree = set.degree();
-    first_wrong(&[
-        (combined, words_of(set)),
-        (acc, degree),
-        (keys, selectors_length(set, count)),
-        (work, sweep_work(set)),
-        (scratch, degree),
-    ])
 }
 
 // The work memory of a gate.
@@ -203,34 +60,102 @@ pub fn gate_work(set: &Set) -> usize
     sweep_work(set) + set.degree() + sample_of(set) + sample_of(set) + words_of(set)
 }
 
-pub fn gate_fault(
+// The first list that has not its right length; each list is told by its length and the right one.
+fn first_wrong(lists: &[(usize, usize)]) -> Option<usize>
+    ensures first { result ≡ position (λ l. not (l.0 == l.1)) lists.now }
+    ensures within { IfSome result (λ i. i < length lists.now) }
+{
+    lists.iter().position(|list| list.0 != list.1)
+}
+
+// Refuses the first list that has not its right length.
+pub fn check_lengths(lists: &[(usize, usize)]) -> Result<(), Fault>
+    requires { length lists.now ≤ 16 }
+    ensures answer { refusal result ≡ first_wrong 0 lists.now }
+    ensures fits { IsOk result → AllRight lists.now }
+{
+    match first_wrong(lists) {
+        Some(list) => Err(Fault::Length {
+            list: list as u32,
+            part: Layer::Gate,
+        }),
+        None => Ok(()),
+    }
+}
+
+// The lists of a start.
+pub fn check_start(
+    set: &Set,
+    combined: &[u16],
+    acc: &[u32],
+    key: &[u32],
+    work: &[u32],
+    scratch: &[u32],
+) -> Result<(), Fault>
+    ensures answer { refusal result ≡ start_refused set.now.within.numbers (length combined.now) (length acc.now) (length key.now) (length work.now) (length scratch.now) }
+    ensures fits { IsOk result → StartFits set.now.within.numbers (length combined.now) (length acc.now) (length key.now) (length work.now) (length scratch.now) }
+{
+    let degree = set.degree();
+    check_lengths(&[
+        (combined.len(), words_of(set)),
+        (acc.len(), degree),
+        (key.len(), start_length(set)),
+        (work.len(), sweep_work(set)),
+        (scratch.len(), degree),
+    ])
+}
+
+// The lists of a sweep by so many selectors.
+pub fn check_sweep(
     set: &Set,
     count: usize,
-    x: usize,
-    y: usize,
-    out: usize,
-    start: usize,
-    selectors: usize,
-    rows: usize,
-    small: usize,
-    work: usize,
-    scratch: usize,
-) -> Option<Fault>
+    combined: &[u16],
+    acc: &[u32],
+    keys: &[u32],
+    work: &[u32],
+    scratch: &[u32],
+) -> Result<(), Fault>
     requires { count ≤ 2 ^ 14 }
-    ensures answer { result ≡ gate_refused set.now.within.numbers count x y out start selectors rows small work scratch }
-    ensures fits { result ≡ None → GateFits set.now.within.numbers count x y out start selectors rows small work scratch }
+    ensures answer { refusal result ≡ sweep_refused set.now.within.numbers count (length combined.now) (length acc.now) (length keys.now) (length work.now) (length scratch.now) }
+    ensures fits { IsOk result → SweepFits set.now.within.numbers count (length combined.now) (length acc.now) (length keys.now) (length work.now) (length scratch.now) }
+{
+    let degree = set.degree();
+    check_lengths(&[
+        (combined.len(), words_of(set)),
+        (acc.len(), degree),
+        (keys.len(), selectors_length(set, count)),
+        (work.len(), sweep_work(set)),
+        (scratch.len(), degree),
+    ])
+}
+
+// The lists of a gate whose sweep takes so many selectors.
+pub fn check_gate(
+    set: &Set,
+    count: usize,
+    x: &[u16],
+    y: &[u16],
+    out: &[u16],
+    keys: Keys<'_>,
+    small: &[u16],
+    work: &[u32],
+    scratch: &[u32],
+) -> Result<(), Fault>
+    requires { count ≤ 2 ^ 14 }
+    ensures answer { refusal result ≡ gate_refused set.now.within.numbers count (length x.now) (length y.now) (length out.now) (length keys.entry.start.now) (length keys.entry.selectors.now) (length keys.entry.rows.now) (length small.now) (length work.now) (length scratch.now) }
+    ensures fits { IsOk result → GateFits set.now.within.numbers count (length x.now) (length y.now) (length out.now) (length keys.entry.start.now) (length keys.entry.selectors.now) (length keys.entry.rows.now) (length small.now) (length work.now) (length scratch.now) }
 {
     let words = words_of(set);
-    first_wrong(&[
-        (x, words),
-        (y, words),
-        (out, words),
-        (start, start_length(set)),
-        (selectors, selectors_length(set, count)),
-        (rows, rows_length(set)),
-        (small, words),
-        (work, gate_work(set)),
-        (scratch, set.degree()),
+    check_lengths(&[
+        (x.len(), words),
+        (y.len(), words),
+        (out.len(), words),
+        (keys.start.len(), start_length(set)),
+        (keys.selectors.len(), selectors_length(set, count)),
+        (keys.rows.len(), rows_length(set)),
+        (small.len(), words),
+        (work.len(), gate_work(set)),
+        (scratch.len(), set.degree()),
     ])
 }
 
@@ -242,59 +167,40 @@ fn reach(set: &Set, x: u32, y: u32, z: u32) -> usize
     (top + 1) * words_of(set)
 }
 
-// The greater of two lengths.
-fn at_least(length: usize, least: usize) -> usize
-    ensures { result ≡ max length least }
-{
-    length.max(least)
-}
-
-pub fn gate_at_fault(
+// The lists of a gate on the registers x, y and z.
+pub fn check_gate_at(
     set: &Set,
     count: usize,
     x: u32,
     y: u32,
     z: u32,
-    start: usize,
-    selectors: usize,
-    rows: usize,
-    registers: usize,
-    small: usize,
-    work: usize,
-    scratch: usize,
-) -> Option<Fault>
+    keys: Keys<'_>,
+    registers: &[u16],
+    small: &[u16],
+    work: &[u32],
+    scratch: &[u32],
+) -> Result<(), Fault>
     requires { count ≤ 2 ^ 14 }
-    ensures answer { result ≡ gate_at_refused set.now.within.numbers count x y z start selectors rows registers small work scratch }
-    ensures fits { result ≡ None → GateAtFits set.now.within.numbers count x y z start selectors rows registers small work scratch }
+    ensures answer { refusal result ≡ gate_at_refused set.now.within.numbers count x y z (length keys.entry.start.now) (length keys.entry.selectors.now) (length keys.entry.rows.now) (length registers.now) (length small.now) (length work.now) (length scratch.now) }
+    ensures fits { IsOk result → GateAtFits set.now.within.numbers count x y z (length keys.entry.start.now) (length keys.entry.selectors.now) (length keys.entry.rows.now) (length registers.now) (length small.now) (length work.now) (length scratch.now) }
 {
-    first_wrong(&[
-        (start, start_length(set)),
-        (selectors, selectors_length(set, count)),
-        (rows, rows_length(set)),
-        (registers, at_least(registers, reach(set, x, y, z))),
-        (small, words_of(set)),
-        (work, gate_work(set)),
-        (scratch, set.degree()),
+    let held = registers.len();
+    check_lengths(&[
+        (keys.start.len(), start_length(set)),
+        (keys.selectors.len(), selectors_length(set, count)),
+        (keys.rows.len(), rows_length(set)),
+        (held, held.max(reach(set, x, y, z))),
+        (small.len(), words_of(set)),
+        (work.len(), gate_work(set)),
+        (scratch.len(), set.degree()),
     ])
 }
 
-pub fn invert_fault(set: &Set, x: usize, out: usize) -> Option<Fault>
-    ensures answer { result ≡ invert_refused set.now.within.numbers x out }
-    ensures fits { result ≡ None → (x ≡ words_of set.now.within.numbers) × (out ≡ words_of set.now.within.numbers) }
+// The registers x and z, within their memory.
+pub fn check_invert_at(set: &Set, x: u32, z: u32, registers: &[u16]) -> Result<(), Fault>
+    ensures answer { refusal result ≡ invert_at_refused set.now.within.numbers x z (length registers.now) }
+    ensures fits { IsOk result → InvertAtFits set.now.within.numbers x z (length registers.now) }
 {
-    let right = words_of(set);
-    if x != right {
-        return wrong(0);
-    }
-    if out != right {
-        return wrong(1);
-    }
-    None
-}
-
-pub fn invert_at_fault(set: &Set, x: u32, z: u32, registers: usize) -> Option<Fault>
-    ensures answer { result ≡ invert_at_refused set.now.within.numbers x z registers }
-    ensures fits { result ≡ None → InvertAtFits set.now.within.numbers x z registers }
-{
-    first_wrong(&[(registers, at_least(registers, reach(set, x, x, z)))])
+    let held = registers.len();
+    check_lengths(&[(held, held.max(reach(set, x, x, z)))])
 }

@@ -3,13 +3,13 @@
 
 mod beginning;
 pub mod bootstrap;
-mod guard;
 pub mod in_place;
 pub mod inverse;
 pub mod keys;
 pub mod laws;
 mod lengths;
 pub mod letter;
+mod parts;
 mod refresh;
 pub mod stages;
 mod switching;

@@ -1,3 +1,5 @@
+ghost use Rattle.std.specs.Prelude.{◌≡◌, IfOk, IfErr};
+
 use faults::fault::Fault;
 
 // What a stage hands to the next one, which uses it up: how many words it wrote.
@@ -37,6 +39,19 @@ pub struct Switched {
 pub struct Declined<T> {
     pub fault: Fault,
     pub token: T,
+}
+
+impl<T> Declined<T> {
+    // The token, unless its stage refuses the lists.
+    fn unless(checked: Result<(), Fault>, token: T) -> Result<T, Declined<T>>
+        ensures accepts { IfOk result (λ t. (t ≡ token) × (checked ≡ Ok tt)) }
+        ensures declines { IfErr result (λ d. (d.token ≡ token) × (checked ≡ Err d.fault)) }
+    {
+        match checked {
+            Ok(()) => Ok(token),
+            Err(fault) => Err(Declined { fault, token }),
+        }
+    }
 }
 
 pub mod combine;

@@ -4,7 +4,9 @@ ghost use Rattle.algebra.specs.Words.{word_of};
 ghost use Rattle.kernels.specs.Polynomials.{reduced};
 ghost use Rattle.gate.specs.Stages.{switch_words, split_by, rows_of, all_rows_of, Added};
 
+use crate::parts::part_of;
 use words::gadget::Gadget;
+use words::modulus::Modulus;
 
 // A digit as a word of 32 bits.
 fn wrapped(digit: i64) -> u32
@@ -18,31 +20,13 @@ fn wrapped(digit: i64) -> u32
     }
 }
 
-// Digit i of a list as a word of 32 bits.
-fn digit_word(digits: &[i64], i: usize) -> u32
-    requires place { i < length digits.now }
-    requires small { unsigned_abs (slice_index_or digits.now i (pos 0)) < 2 ^ 31 }
-    ensures { result ≡ word_of (2 ^ 32) (slice_index_or digits.now i (pos 0)) }
-{
-    wrapped(digits[i])
-}
-
-// The i-th part of some words, each part of `size` words.
-fn part_of(words: &[u32], i: usize, size: usize) -> &[u32]
-    requires { i * size + size ≤ length words.now }
-    ensures same { result.now ≡ take size (drop (i * size) words.now) }
-    ensures long { length result.now ≡ size }
-{
-    &words[i * size..i * size + size]
-}
-
 // A row times a digit is added, modulo 2^32.
 fn add_row(digit: u32, row: &[u32], out: &mut [u32])
     requires { length row.now ≡ length out.old }
     ensures { (t : ℕ) → t < length out.old → slice_index out.new t ≡ (slice_index out.old t + digit * slice_index row.now t % 2 ^ 32) % 2 ^ 32 }
 {
-    for t in 0..out.len() {
-        out[t] = out[t].wrapping_add(digit.wrapping_mul(row[t]));
+    for (t, word) in out.iter_mut().enumerate() {
+        *word = word.wrapping_add(digit.wrapping_mul(row[t]));
     }
 }
 
@@ -52,9 +36,9 @@ fn add_digits(digits: &[i64], rows: &[u32], out: &mut [u32])
     requires rows { length rows.now ≡ length digits.now * length out.old }
     ensures { Added out.old out.new (rows_of digits.now (length digits.now) (length out.old) rows.now) }
 {
-    for i in 0..digits.len() {
-        let size = out.len();
-        add_row(digit_word(digits, i), part_of(rows, i, size), out);
+    let size = out.len();
+    for (i, digit) in digits.iter().enumerate() {
+        add_row(wrapped(*digit), part_of(rows, i, size), out);
     }
 }
 
@@ -84,9 +68,9 @@ fn add_words(gadget: &Gadget, words: &[u32], digits: &mut [i64], rows: &[u32], o
     requires few { length out.old ≤ 1024 }
     ensures { Added out.old out.new (λ t. sum_z (length words.now) (λ j. all_rows_of gadget.now words.now (length out.old) rows.now j t)) }
 {
-    for j in 0..words.len() {
-        let size = gadget.digits as usize * out.len();
-        add_word(gadget, words[j], digits, part_of(rows, j, size), out);
+    let size = gadget.digits as usize * out.len();
+    for (j, word) in words.iter().enumerate() {
+        add_word(gadget, *word, digits, part_of(rows, j, size), out);
     }
 }
 
@@ -100,12 +84,11 @@ fn begin(last: usize, word: u32, out: &mut [u32])
 }
 
 // Each word becomes its remainder.
-fn settle(modulus: u32, out: &mut [u32])
-    requires { 0 < modulus }
-    ensures { out.new ≡ reduced (length out.old) modulus out.old }
+fn settle(modulus: Modulus, out: &mut [u32])
+    ensures { out.new ≡ reduced (length out.old) modulus.value out.old }
 {
     for word in out.iter_mut() {
-        *word %= modulus;
+        *word %= modulus.value;
     }
 }
 
@@ -130,5 +113,5 @@ pub fn switch_words(
     let places = gadget.digits as usize;
     begin(last, words[degree], out);
     add_words(gadget, &words[0..degree], &mut digits[0..places], rows, out);
-    settle(gadget.modulus.get(), out);
+    settle(gadget.modulus, out);
 }

@@ -3,7 +3,7 @@ ghost use Rattle.gate.specs.Lengths.{begun, wrote, words_of, combine_refused};
 ghost use Rattle.gate.specs.Stages.{combined_of};
 
 use super::Combined;
-use crate::lengths::combine_fault;
+use crate::lengths::{check_lengths, words_of};
 use crate::letter::Letter;
 use crate::vectors::combine_words;
 use faults::fault::Fault;
@@ -25,7 +25,7 @@ pub(crate) fn combine_right(
 {
     combine_words(
         set.dimension(),
-        set.small(),
+        set.least(),
         letter.offset(),
         letter.times(),
         x,
@@ -46,8 +46,7 @@ pub fn combine(
     ensures answer { result ≡ begun (combine_refused set.now.within.numbers (length x.now) (length y.now) (length out.old)) (record { words = words_of set.now.within.numbers }) }
     ensures out { out.new ≡ wrote result (combined_of set.now.within.numbers letter x.now y.now) out.old }
 {
-    if let Some(fault) = combine_fault(set, x.len(), y.len(), out.len()) {
-        return Err(fault);
-    }
+    let words = words_of(set);
+    check_lengths(&[(x.len(), words), (y.len(), words), (out.len(), words)])?;
     Ok(combine_right(set, letter, x, y, out))
 }

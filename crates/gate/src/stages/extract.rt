@@ -3,7 +3,7 @@ ghost use Rattle.gate.specs.Lengths.{staged, wrote, spent, sample_of, extract_re
 ghost use Rattle.gate.specs.Stages.{extracted_of};
 
 use super::{Declined, Extracted, Swept};
-use crate::lengths::extract_fault;
+use crate::lengths::{check_lengths, sample_of};
 use crate::vectors::extract_words;
 use set::checked::Set;
 
@@ -16,7 +16,7 @@ pub(crate) fn extract_right(set: &Set, acc: &mut [u32], out: &mut [u32], token: 
     ensures out { out.new ≡ extracted_of set.now.within.numbers acc.old }
 {
     let Swept { words: _ } = token;
-    extract_words(set.degree(), set.wide().get(), acc, out);
+    extract_words(set.degree(), set.wide(), acc, out);
     acc.fill(0);
     Extracted { words: out.len() }
 }
@@ -32,8 +32,9 @@ pub fn extract(
     ensures acc { acc.new ≡ spent result acc.old }
     ensures out { out.new ≡ wrote result (extracted_of set.now.within.numbers acc.old) out.old }
 {
-    if let Some(fault) = extract_fault(set, acc.len(), out.len()) {
-        return Err(Declined { fault, token });
-    }
+    let token = Declined::unless(
+        check_lengths(&[(acc.len(), set.degree()), (out.len(), sample_of(set))]),
+        token,
+    )?;
     Ok(extract_right(set, acc, out, token))
 }

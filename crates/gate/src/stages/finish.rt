@@ -3,8 +3,8 @@ ghost use Rattle.gate.specs.Lengths.{staged, wrote, spent, words_of, finish_refu
 ghost use Rattle.gate.specs.Stages.{finished_of};
 
 use super::{Declined, Switched};
-use crate::lengths::finish_fault;
-use crate::vectors::finish_words;
+use crate::lengths::{check_lengths, words_of};
+use crate::vectors::narrow_words;
 use set::checked::Set;
 
 // The same, of lists that have their lengths.
@@ -15,7 +15,7 @@ pub(crate) fn finish_right(set: &Set, words: &mut [u32], out: &mut [u16], token:
     ensures out { out.new ≡ finished_of set.now.within.numbers words.old }
 {
     let Switched { words: _ } = token;
-    finish_words(&set.middle(), &set.least(), words, out);
+    narrow_words(set.middle(), set.least(), words, out);
     words.fill(0);
 }
 
@@ -30,9 +30,11 @@ pub fn finish(
     ensures words { words.new ≡ spent result words.old }
     ensures out { out.new ≡ wrote result (finished_of set.now.within.numbers words.old) out.old }
 {
-    if let Some(fault) = finish_fault(set, words.len(), out.len()) {
-        return Err(Declined { fault, token });
-    }
+    let right = words_of(set);
+    let token = Declined::unless(
+        check_lengths(&[(words.len(), right), (out.len(), right)]),
+        token,
+    )?;
     finish_right(set, words, out, token);
     Ok(())
 }

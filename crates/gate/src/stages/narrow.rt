@@ -3,7 +3,7 @@ ghost use Rattle.gate.specs.Lengths.{staged, wrote, spent, sample_of, narrow_ref
 ghost use Rattle.gate.specs.Stages.{narrowed_of};
 
 use super::{Declined, Extracted, Narrowed};
-use crate::lengths::narrow_fault;
+use crate::lengths::{check_lengths, sample_of};
 use crate::vectors::narrow_words;
 use set::checked::Set;
 
@@ -21,7 +21,7 @@ pub(crate) fn narrow_right(
     ensures out { out.new ≡ narrowed_of set.now.within.numbers words.old }
 {
     let Extracted { words: _ } = token;
-    narrow_words(&set.wide(), &set.middle(), words, out);
+    narrow_words(set.wide(), set.middle(), words, out);
     words.fill(0);
     Narrowed { words: out.len() }
 }
@@ -37,8 +37,10 @@ pub fn narrow(
     ensures words { words.new ≡ spent result words.old }
     ensures out { out.new ≡ wrote result (narrowed_of set.now.within.numbers words.old) out.old }
 {
-    if let Some(fault) = narrow_fault(set, words.len(), out.len()) {
-        return Err(Declined { fault, token });
-    }
+    let sample = sample_of(set);
+    let token = Declined::unless(
+        check_lengths(&[(words.len(), sample), (out.len(), sample)]),
+        token,
+    )?;
     Ok(narrow_right(set, words, out, token))
 }

@@ -9,7 +9,7 @@ ghost use Rattle.gate.specs.Stages.{started_of};
 
 use super::{Combined, Declined, Started};
 use crate::beginning::begin_words;
-use crate::lengths::start_fault;
+use crate::lengths::check_start;
 use kernels::kernel::Kernel;
 use set::checked::Set;
 use sweeps::external::take;
@@ -29,7 +29,7 @@ fn begin(set: &Set, word: u16, acc: &mut [u32])
     requires { length acc.old ≡ set.now.within.numbers.degree }
     ensures { acc.new ≡ beginning set.now.within.numbers.degree set.now.within.numbers.modulus (turns set.now.within.numbers word) }
 {
-    begin_words(set.wide().get(), exponent_of(set, word), acc);
+    begin_words(set.wide(), exponent_of(set, word), acc);
 }
 
 // Taken by the start key.
@@ -101,16 +101,10 @@ pub fn start<K: Kernel>(
 {
     let room = Wiped { words: work };
     let spare = Wiped { words: scratch };
-    if let Some(fault) = start_fault(
-        set,
-        combined.len(),
-        acc.len(),
-        key.len(),
-        room.words.len(),
-        spare.words.len(),
-    ) {
-        return Err(Declined { fault, token });
-    }
+    let token = Declined::unless(
+        check_start(set, combined, acc, key, room.words, spare.words),
+        token,
+    )?;
     Ok(start_right(
         kernel,
         set,

@@ -5,7 +5,7 @@ ghost use Rattle.gate.specs.Lengths.{staged, wrote, spent, words_of, selectors_l
 ghost use Rattle.gate.specs.Stages.{swept_of};
 
 use super::{Declined, Started, Swept};
-use crate::lengths::sweep_fault;
+use crate::lengths::check_sweep;
 use kernels::kernel::Kernel;
 use set::checked::Set;
 use sweeps::sweep::Sweep;
@@ -93,17 +93,18 @@ pub fn sweep<K: Kernel, S: Sweep>(
 {
     let room = Wiped { words: work };
     let spare = Wiped { words: scratch };
-    if let Some(fault) = sweep_fault(
-        set,
-        S::selectors(&set.within),
-        combined.len(),
-        acc.len(),
-        keys.len(),
-        room.words.len(),
-        spare.words.len(),
-    ) {
-        return Err(Declined { fault, token });
-    }
+    let token = Declined::unless(
+        check_sweep(
+            set,
+            S::selectors(&set.within),
+            combined,
+            acc,
+            keys,
+            room.words,
+            spare.words,
+        ),
+        token,
+    )?;
     Ok(sweep_right(
         kernel,
         sweep,

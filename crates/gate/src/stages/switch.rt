@@ -3,7 +3,7 @@ ghost use Rattle.gate.specs.Lengths.{staged, wrote, spent, words_of, sample_of, 
 ghost use Rattle.gate.specs.Stages.{switched_of};
 
 use super::{Declined, Narrowed, Switched};
-use crate::lengths::switch_fault;
+use crate::lengths::{check_lengths, rows_length, sample_of, words_of};
 use crate::switching::switch_words;
 use set::checked::Set;
 
@@ -47,8 +47,13 @@ pub fn switch(
     ensures words { words.new ≡ spent result words.old }
     ensures out { out.new ≡ wrote result (switched_of set.now.within.numbers rows.now words.old) out.old }
 {
-    if let Some(fault) = switch_fault(set, words.len(), out.len(), rows.len()) {
-        return Err(Declined { fault, token });
-    }
+    let token = Declined::unless(
+        check_lengths(&[
+            (words.len(), sample_of(set)),
+            (out.len(), words_of(set)),
+            (rows.len(), rows_length(set)),
+        ]),
+        token,
+    )?;
     Ok(switch_right(set, words, out, rows, token))
 }

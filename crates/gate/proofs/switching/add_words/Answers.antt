@@ -1,4 +1,4 @@
-use Rattle.std.proofs.Common.{◌≡◌, ℕ, ◌+◌, ◌*◌, List, length, get_or, take, drop, pos, ◌*ℤ◌, ap, ◌∙◌, arith}
+use Rattle.std.proofs.Common.{◌≡◌, ℕ, ◌+◌, ◌*◌, List, length, get_or, pos, ◌*ℤ◌, ap, ◌∙◌, arith}
 use Rattle.algebra.proofs.Sums.{sum_same}
 use Rattle.gate.specs.Stages.{split_by, rows_of, all_rows_of}
 use Rattle.gate.proofs.Rows.{added_none, added_then, part_at, room, part_room}
@@ -9,8 +9,7 @@ loop-j-init c = added_none c.args.out.now (all_rows_of c.args.gadget.now c.args.
 
 pub part_of-requires : goal.part_of-requires
 part_of-requires c =
-    let k : length c.loop-j.out ≡ length c.args.out.now = omega arith in
-    rw k (omega (arith, room c.loop-j.j (c.args.gadget.now.digits * length c.args.out.now) (length c.args.words.now) (omega arith), c.requires.rows))
+    omega (arith, room c.loop-j.j (c.args.gadget.now.digits * length c.args.out.now) (length c.args.words.now) (omega arith), c.requires.rows)
 
 pub loop-j-preserved : goal.loop-j-preserved
 loop-j-preserved c =
@@ -27,5 +26,4 @@ loop-j-preserved c =
     (λ t l. ap (λ (w : ℕ). rows_of (split_by g (get_or xs j 0)) g.digits w c.part_of.result.now t) k
     ∙ sum_same g.digits _ _ (λ i b. ap (λ (r : ℕ). get_or (split_by g (get_or xs j 0)) i (pos 0) *ℤ pos r)
     (ap (λ (ws : List ℕ). get_or ws (i * length old + t) 0) c.part_of.ensures.same
-    ∙ ap (λ (w : ℕ). get_or (take (g.digits * w) (drop (j * (g.digits * w)) rows)) (i * length old + t) 0) k
     ∙ part_at rows j (g.digits * length old) (i * length old + t) (part_room i (length old) g.digits t b l))))

@@ -1,4 +1,4 @@
-use Rattle.std.proofs.Common.{◌≡◌, ℕ, ◌+◌, ◌-◌, List, length, take, drop, ◌∙◌, ap₂, arith, length-take}
+use Rattle.std.proofs.Common.{◌≡◌, ℕ, ◌+◌, ◌-◌, List, length, take, drop, ap, ◌∙◌, arith, length-take}
 use Rattle.kernels.specs.Polynomials.{reduced}
 use Rattle.gate.proofs.Rows.{added_lengths}
 use Rattle.gate.proofs.Switched.{switched_from}
@@ -16,6 +16,6 @@ returns c =
     length-take (c.args.degree - 0) c.args.words.now ∙ omega (arith, c.requires.words) in
     let old : length c.begin.new.out ≡ c.args.last + 1 = omega arith in
     c.settle.ensures
-    ∙ ap₂ (λ (l m : ℕ). reduced l m c.add_words.new.out) long c.get.ensures.value
+    ∙ ap (λ (l : ℕ). reduced l g.modulus.value c.add_words.new.out) long
     ∙ switched_from g N n xs rows c.begin.new.out c.add_words.new.out c.requires.whole c.requires.divides c.begin.ensures long
     (added_lengths g c.begin.new.out c.add_words.new.out (take (N - 0) (drop 0 xs)) rows N (n + 1) front old c.add_words.ensures)

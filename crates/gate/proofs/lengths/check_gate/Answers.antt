@@ -1,5 +1,5 @@
 use Rattle.std.proofs.Common.{◌∙◌}
-use Rattle.gate.proofs.lengths.gate_fault.Goals as goal
+use Rattle.gate.proofs.lengths.check_gate.Goals as goal
 
 pub returns : goal.returns
 returns c =
@@ -9,10 +9,10 @@ returns c =
     let s = c.selectors_length.ensures in
     let r = c.rows_length.ensures in
     let g = c.gate_work.ensures in
-    let a = c.first_wrong.ensures.answer in
+    let a = c.check_lengths.ensures.answer in
     record {
       answer = cc (a, d, w, k, s, r, g);
-      fits = λ e. let h = c.first_wrong.ensures.fits e in record {
+      fits = λ e. let h = c.check_lengths.ensures.fits e in record {
         x_long = h.0 ∙ w;
         y_long = h.1.0 ∙ w;
         out_long = h.1.1.0 ∙ w;
