@@ -1,5 +1,6 @@
 -- The test for a power of two.
 use Rattle.std.proofs.Common.{◌≡◌, ℕ, zero, suc, ◌+◌, ◌-◌, ◌*◌, ◌^◌, ◌<◌, ◌≤◌, true, count_ones, Option, Some, None, IfSome, IfNone, unwrap_or, sym, ap, ◌∙◌, subst, inl, inr, arith, pow_mono}
+use native.Mathlib.Nat.{lt_of_not-le}
 use lib.Count.{count_leading_zeros, leading_of_zero, ones-ones}
 use Rattle.std.specs.Int.{is_power_of_two}
 use Rattle.std.proofs.lemmas.Nat.{leading_top, pow_below, pow_pos, ones_cat, zero_from_ones, ones_le_self}
@@ -40,17 +41,9 @@ log_is (Some k) x few z a b =
     let l = log_between x some few in
     log_unique x k (log2 x) a (omega arith) l.0 l.1
 
--- an exponent is less than the power
-pub below_power : (k : ℕ) → k < 2 ^ k
-below_power zero = omega arith
-below_power (suc k) = let h = below_power k in omega arith
-
 -- a power of two of 32 bits has an exponent below 32
 pub power_exponent : (k : ℕ) → 2 ^ k < 2 ^ 32 → k < 32
-power_exponent k h = elim (cases_order k 32) [
-  | inl e ↦ absurd (let s : 2 ^ k ≡ 2 ^ 32 = ap (λ (n : ℕ). 2 ^ n) e in omega arith)
-  | inr o ↦ elim o [ inl m ↦ m | inr n ↦ absurd (let p = pow_below 32 k n in omega arith) ]
-]
+power_exponent k h = lt_of_not-le (λ (l : 32 ≤ k). let p : 2 ^ 32 ≤ 2 ^ k = pow_mono l in omega arith)
 
 -- the test passes for the powers of two, and for no others
 pub power_passes : (x : ℕ) → x < 2 ^ 32 → Power x → is_power x ≡ true
