@@ -12,6 +12,7 @@ fn log_of(degree: u32) -> Option<usize>
     ensures power { IfSome result (λ k. degree ≡ 2 ^ k) }
     ensures range { IfSome result (λ k. (2 ≤ k) × (k ≤ 10)) }
 {
+    // Kept: `(2..=10).find(|log| degree == 1 << log)` left `returns-clause-same` open.
     match degree {
         4 => Some(2),
         8 => Some(3),
@@ -50,6 +51,7 @@ pub fn ring(degree: u32, modulus: u32, root: u32) -> Result<Ring, Fault>
     if !(1..modulus).contains(&root) {
         return Err(Fault::Field { field: 4 });
     }
+    // Kept: room for the largest degree, since there is no heap.
     let mut powers = [0u32; 1024];
     tables::fill_powers(root, modulus, &mut powers);
     let degree = degree as usize;
