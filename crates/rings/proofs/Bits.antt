@@ -29,26 +29,6 @@ bits_strict Q (suc (suc r)) o m l h =
     let w : 2 ^ (suc (suc r) - 1) ≡ 2 ^ suc r = ap (λ i. 2 ^ i) e in
     omega arith
 
--- one bit more
-pub record Longer (x r : ℕ) : Type 0 where
-  pub few : r + 1 ≤ 32
-  pub low : 2 ^ (r + 1 - 1) ≤ x
-  pub high : x < 2 ^ (r + 1)
-
-pub longer : (x r : ℕ) → x < 4294967296 → 0 < r → 2 ^ (r - 1) ≤ x / 2 → x / 2 < 2 ^ r → Longer x r
-longer x r f p l h =
-    let s : suc (r - 1) ≡ r = omega arith in
-    let a : 2 ^ suc (r - 1) ≡ 2 * 2 ^ (r - 1) = pow-succ' 2 (r - 1) in
-    let b : 2 ^ suc (r - 1) ≡ 2 ^ r = ap (λ i. 2 ^ i) s in
-    let t : suc r ≡ r + 1 = omega arith in
-    let c : 2 ^ suc r ≡ 2 * 2 ^ r = pow-succ' 2 r in
-    let d : 2 ^ suc r ≡ 2 ^ (r + 1) = ap (λ i. 2 ^ i) t in
-    let u : r ≡ r + 1 - 1 = omega arith in
-    let w : 2 ^ r ≡ 2 ^ (r + 1 - 1) = ap (λ i. 2 ^ i) u in
-    let low : 2 ^ r ≤ x = omega arith in
-    let k : r < 32 = exponent_below r 32 (omega arith) in
-    record { few = omega arith; low = omega arith; high = omega arith }
-
 -- 4^r in its two parts
 fourfold : (r : ℕ) → 0 < r → 2 ^ (r - 1) * 2 ^ (r + 1) ≡ 2 ^ (2 * r)
 fourfold r p =

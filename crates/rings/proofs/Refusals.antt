@@ -1,5 +1,5 @@
 -- The rule that is answered is the least fault.
-use Rattle.std.proofs.Common.{◌≡◌, ℕ, zero, suc, ◌-◌, ◌%◌, ◌^◌, ◌≤◌, Bool, true, false, cond, eqb, ltb, ◌⊎◌, refl, inl, inr, arith, eq-eqb}
+use Rattle.std.proofs.Common.{◌≡◌, ℕ, zero, suc, ◌-◌, ◌%◌, ◌^◌, ◌≤◌, Bool, true, false, cond, eqb, ltb, ◌⊎◌, Option, refl, sym, subst, inl, inr, arith, eq-eqb}
 use Rattle.std.proofs.lemmas.Bool.{eqb-true}
 use Rattle.std.proofs.lemmas.Bool.Decides.{nat_tests}
 use Rattle.faults.specs.declared.fault.Fault.{Fault}
@@ -102,3 +102,7 @@ ring_least N Q ψ =
     let third = least_or W2 W3 _ _ r2 r3 last in
     let second = least_or W1 (λ g. W2 g ⊎ W3 g) _ _ r1 third next in
     least_or W0 (λ g. W1 g ⊎ (W2 g ⊎ W3 g)) _ _ r0 second first
+
+-- the same of an answer that is the rule broken first
+pub ring_answer : (N Q ψ : ℕ) (a : Option Fault) → a ≡ ring_broken N Q ψ → Least (WrongRing N Q ψ) a
+ring_answer N Q ψ a e = subst (λ (b : Option Fault). Least (WrongRing N Q ψ) b) (sym e) (ring_least N Q ψ)

@@ -2,38 +2,7 @@ ghost use Rattle.std.specs.Prelude.{◌≡◌, ℕ, ◌+◌, ◌-◌, ◌*◌, �
 ghost use Rattle.rings.specs.Tables.{exponent, Powers};
 
 use crate::ring::Ring;
-use crate::tables;
-
-// An empty table.
-fn zeros() -> [u32; 5120] {
-    [0; 5120]
-}
-
-// The table of roots.
-fn root_table(log: usize, half: usize, powers: &[u32]) -> [u32; 5120]
-    requires few { log ≤ 10 }
-    requires some { 0 < log }
-    requires size { half ≡ 2 ^ (log - 1) }
-    requires all { 2 * half ≤ length powers.now }
-    ensures long { length result ≡ 5120 }
-    ensures same { (i : ℕ) → i < log * half → slice_index result i ≡ slice_index powers.now (exponent log half i) }
-{
-    let mut out = zeros();
-    tables::fill_roots(log, half, powers, &mut out);
-    out
-}
-
-// The table of their quotients.
-fn quotient_table(modulus: u32, used: usize, roots: &[u32; 5120]) -> [u32; 5120]
-    requires few { used ≤ 5120 }
-    requires below { (i : ℕ) → i < used → slice_index roots.now i < modulus }
-    ensures long { length result ≡ 5120 }
-    ensures same { (i : ℕ) → i < used → slice_index result i ≡ slice_index roots.now i * 2 ^ 32 / modulus }
-{
-    let mut out = zeros();
-    tables::fill_quotients(modulus, used, roots, &mut out);
-    out
-}
+use crate::tables::{Rows, fill_powers, quotient_of};
 
 // The inverse of 2^log: so many times half of modulus + 1.
 fn inverse_of(log: usize, modulus: u32) -> u32
@@ -44,7 +13,7 @@ fn inverse_of(log: usize, modulus: u32) -> u32
     ensures one { result * 2 ^ log % modulus ≡ 1 }
 {
     let mut powers = [0u32; 11];
-    tables::fill_powers(modulus / 2 + 1, modulus, &mut powers);
+    fill_powers(modulus / 2 + 1, modulus, &mut powers);
     powers[log]
 }
 
@@ -56,7 +25,7 @@ fn bits_of(x: u32) -> u32
     ensures low { 2 ^ (result - 1) ≤ x }
     ensures high { x < 2 ^ result }
 {
-    if x == 1 { 1 } else { bits_of(x / 2) + 1 }
+    x.ilog2() + 1
 }
 
 // The quotient of 4^bits by the modulus.
@@ -85,10 +54,11 @@ pub fn build(degree: usize, log: usize, modulus: u32, root: u32, powers: &[u32])
     ensures { (result.degree ≡ degree) × (result.modulus ≡ modulus) × (result.root ≡ root) }
 {
     let half = degree / 2;
-    let roots = root_table(log, half, powers);
-    let quotients = quotient_table(modulus, log * half, &roots);
+    let rows = Rows { log, half };
+    let roots = rows.roots(powers);
+    let quotients = rows.quotients(modulus, &roots);
     let inverse = inverse_of(log, modulus);
-    let sharp = tables::quotient_of(inverse, modulus);
+    let sharp = quotient_of(inverse, modulus);
     let bits = bits_of(modulus);
     let mu = mu_of(modulus, bits);
     Ring {

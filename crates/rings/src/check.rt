@@ -1,4 +1,4 @@
-ghost use Rattle.std.specs.Prelude.{◌≡◌, ℕ, ◌+◌, ◌-◌, ◌*◌, ◌/◌, ◌%◌, ◌^◌, ◌<◌, ◌≤◌, length, IfOk, ◌==◌};
+ghost use Rattle.std.specs.Prelude.{◌≡◌, ℕ, ◌+◌, ◌-◌, ◌*◌, ◌/◌, ◌%◌, ◌^◌, ◌<◌, ◌≤◌, length, IfOk, IfSome, unwrap_or, ◌==◌};
 ghost use Rattle.faults.specs.Least.{Least, refusal};
 ghost use Rattle.rings.specs.Rules.{log_of, fits_modulus, fits_root, ring_broken, WrongRing};
 
@@ -6,24 +6,24 @@ use crate::ring::Ring;
 use crate::{build, tables};
 use faults::fault::Fault;
 
-// The logarithm of a legal degree, and 0 for any other number.
-fn log_of(degree: u32) -> usize
-    ensures same { result ≡ log_of degree }
-    ensures power { 0 < result → degree ≡ 2 ^ result }
-    ensures some { 0 < result → 2 ≤ result }
-    ensures few { result ≤ 10 }
+// The logarithm of a legal degree.
+fn log_of(degree: u32) -> Option<usize>
+    ensures same { unwrap_or result 0 ≡ log_of degree }
+    ensures power { IfSome result (λ k. degree ≡ 2 ^ k) }
+    ensures range { IfSome result (λ k. (2 ≤ k) × (k ≤ 10)) }
 {
+    // Kept: `(2..=10).find(|log| degree == 1 << log)` left `returns-clause-same` open.
     match degree {
-        4 => 2,
-        8 => 3,
-        16 => 4,
-        32 => 5,
-        64 => 6,
-        128 => 7,
-        256 => 8,
-        512 => 9,
-        1024 => 10,
-        _ => 0,
+        4 => Some(2),
+        8 => Some(3),
+        16 => Some(4),
+        32 => Some(5),
+        64 => Some(6),
+        128 => Some(7),
+        256 => Some(8),
+        512 => Some(9),
+        1024 => Some(10),
+        _ => None,
     }
 }
 
@@ -37,21 +37,21 @@ fn wraps(degree: usize, modulus: u32, root: u32, halfway: u32) -> bool
     (halfway as u64 * halfway as u64 % modulus as u64) as u32 == modulus - 1
 }
 
-// The ring of these numbers, or the first rule that they break.
-fn checked(degree: u32, modulus: u32, root: u32) -> Result<Ring, Fault>
+// The ring of N, Q and ψ, or the least of the faults that they have.
+#[tactic(auto, using(crate::proofs::Refusals::ring_answer))]
+pub fn ring(degree: u32, modulus: u32, root: u32) -> Result<Ring, Fault>
     ensures answer { refusal result ≡ ring_broken degree modulus root }
     ensures made { IfOk result (λ s. (s.degree ≡ degree) × (s.modulus ≡ modulus) × (s.root ≡ root)) }
+    ensures least { Least (WrongRing degree modulus root) (refusal result) }
 {
-    let log = log_of(degree);
-    if log == 0 {
-        return Err(Fault::Field { field: 0 });
-    }
-    if modulus % 2 == 0 || modulus < 17 || modulus >= 0x8000_0000 {
+    let log = log_of(degree).ok_or(Fault::Field { field: 0 })?;
+    if modulus % 2 == 0 || !(17..0x8000_0000).contains(&modulus) {
         return Err(Fault::Field { field: 3 });
     }
-    if root == 0 || root >= modulus {
+    if !(1..modulus).contains(&root) {
         return Err(Fault::Field { field: 4 });
     }
+    // Kept: room for the largest degree, since there is no heap.
     let mut powers = [0u32; 1024];
     tables::fill_powers(root, modulus, &mut powers);
     let degree = degree as usize;
@@ -59,13 +59,4 @@ fn checked(degree: u32, modulus: u32, root: u32) -> Result<Ring, Fault>
         return Err(Fault::Root);
     }
     Ok(build::build(degree, log, modulus, root, &powers))
-}
-
-// The ring of N, Q and ψ, or the least of the faults that they have.
-pub fn ring(degree: u32, modulus: u32, root: u32) -> Result<Ring, Fault>
-    ensures answer { refusal result ≡ ring_broken degree modulus root }
-    ensures made { IfOk result (λ s. (s.degree ≡ degree) × (s.modulus ≡ modulus) × (s.root ≡ root)) }
-    ensures least { Least (WrongRing degree modulus root) (refusal result) }
-{
-    checked(degree, modulus, root)
 }

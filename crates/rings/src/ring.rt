@@ -17,6 +17,7 @@ pub struct Ring {
     pub bits: u32,
     pub mu: u32,
     // powers of the root, a row of `half` for each of the `log` stages, and their quotients
+    // Kept: arrays of the largest ring, since a ring is made with no heap and refused for its listed causes alone.
     pub roots: [u32; 5120],
     pub quotients: [u32; 5120],
     ghost size: { (degree ≡ 2 ^ log) × (half ≡ 2 ^ (log - 1)) × (2 ≤ log) × (log ≤ 10) },

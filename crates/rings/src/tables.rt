@@ -7,8 +7,8 @@ pub fn fill_powers(base: u32, modulus: u32, out: &mut [u32])
     ensures { Powers modulus base out.new }
 {
     let mut power: u32 = 1;
-    for e in 0..out.len() {
-        out[e] = power;
+    for place in out.iter_mut() {
+        *place = power;
         power = (power as u64 * base as u64 % modulus as u64) as u32;
     }
 }
@@ -26,34 +26,6 @@ fn mirrored(s: usize, b: usize) -> usize
     }
 }
 
-// The power of the root that stands at place i of the table.
-fn place(log: usize, half: usize, i: usize) -> usize
-    requires few { log ≤ 10 }
-    requires some { 0 < log }
-    requires size { half ≡ 2 ^ (log - 1) }
-    requires within { i < log * half }
-    ensures same { result ≡ exponent log half i }
-    ensures low { result < 2 * half }
-{
-    let s = i / half;
-    let m = 1usize << s;
-    (1usize << (log - 1 - s)) * (2 * mirrored(s, i % half % m) + 1)
-}
-
-// Writes the table of roots, taken from the powers of the root.
-pub fn fill_roots(log: usize, half: usize, powers: &[u32], out: &mut [u32])
-    requires few { log ≤ 10 }
-    requires some { 0 < log }
-    requires size { half ≡ 2 ^ (log - 1) }
-    requires all { 2 * half ≤ length powers.now }
-    requires rows { log * half ≤ length out.old }
-    ensures { (i : ℕ) → i < log * half → slice_index out.new i ≡ slice_index powers.now (exponent log half i) }
-{
-    for i in 0..log * half {
-        out[i] = powers[place(log, half, i)];
-    }
-}
-
 // The quotient with which multiplication by `factor` needs no division.
 pub fn quotient_of(factor: u32, modulus: u32) -> u32
     requires { factor < modulus }
@@ -62,14 +34,58 @@ pub fn quotient_of(factor: u32, modulus: u32) -> u32
     (((factor as u64) << 32) / modulus as u64) as u32
 }
 
-// Writes the quotients of the first `used` roots.
-pub fn fill_quotients(modulus: u32, used: usize, roots: &[u32], out: &mut [u32])
-    requires left { used ≤ length roots.now }
-    requires right { used ≤ length out.old }
-    requires below { (i : ℕ) → i < used → slice_index roots.now i < modulus }
-    ensures { (i : ℕ) → i < used → slice_index out.new i ≡ slice_index roots.now i * 2 ^ 32 / modulus }
-{
-    for i in 0..used {
-        out[i] = quotient_of(roots[i], modulus);
+// The rows of a table of roots: `half` places for each of the `log` stages of a transform.
+#[derive(Clone, Copy)]
+pub struct Rows {
+    pub log: usize,
+    pub half: usize,
+    ghost few: { (0 < log) × (log ≤ 10) },
+    ghost size: { half ≡ 2 ^ (log - 1) },
+}
+
+impl Rows {
+    // How many places they have.
+    fn places(&self) -> usize
+        ensures same { result ≡ self.now.log * self.now.half }
+        ensures few { result ≤ 5120 }
+    {
+        self.log * self.half
+    }
+
+    // The power of the root that stands at place i.
+    fn power_at(&self, i: usize) -> usize
+        requires { i < self.now.log * self.now.half }
+        ensures same { result ≡ exponent self.now.log self.now.half i }
+        ensures low { result < 2 * self.now.half }
+    {
+        let s = i / self.half;
+        let m = 1usize << s;
+        (1usize << (self.log - 1 - s)) * (2 * mirrored(s, i % self.half % m) + 1)
+    }
+
+    // The table of roots, taken from the powers of the root.
+    pub fn roots(&self, powers: &[u32]) -> [u32; 5120]
+        requires { 2 * self.now.half ≤ length powers.now }
+        ensures long { length result ≡ 5120 }
+        ensures same { (i : ℕ) → i < self.now.log * self.now.half → slice_index result i ≡ slice_index powers.now (exponent self.now.log self.now.half i) }
+    {
+        let mut out = [0; 5120];
+        for (i, place) in out[..self.places()].iter_mut().enumerate() {
+            *place = powers[self.power_at(i)];
+        }
+        out
+    }
+
+    // The table of their quotients.
+    pub fn quotients(&self, modulus: u32, roots: &[u32; 5120]) -> [u32; 5120]
+        requires { (i : ℕ) → i < self.now.log * self.now.half → slice_index roots.now i < modulus }
+        ensures long { length result ≡ 5120 }
+        ensures same { (i : ℕ) → i < self.now.log * self.now.half → slice_index result i ≡ slice_index roots.now i * 2 ^ 32 / modulus }
+    {
+        let mut out = [0; 5120];
+        for (i, place) in out[..self.places()].iter_mut().enumerate() {
+            *place = quotient_of(roots[i], modulus);
+        }
+        out
     }
 }

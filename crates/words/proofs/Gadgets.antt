@@ -1,8 +1,8 @@
 -- What the numbers of a gadget are refused for is the least fault that is true of them; and the facts of one that is made.
-use Rattle.std.proofs.Common.{◌≡◌, ℕ, zero, suc, ◌+◌, ◌-◌, ◌*◌, ◌%◌, ◌^◌, ◌<◌, ◌≤◌, Bool, true, false, ◌&&◌, eqb, leb, sym, refl, ap, ◌∙◌, inl, inr, mul-zero, mul-suc, arith}
-use native.Mathlib.Nat.{pow-zero, pow-succ'}
+use Rattle.std.proofs.Common.{◌≡◌, ℕ, zero, suc, ◌+◌, ◌-◌, ◌*◌, ◌%◌, ◌^◌, ◌<◌, ◌≤◌, Bool, true, false, ◌&&◌, eqb, leb, sym, refl, ap, ◌∙◌, inl, inr, mul-zero, mul-suc, arith, pow_mono}
+use native.Mathlib.Nat.{pow-zero, pow-succ', lt_of_not-le}
 use Rattle.std.proofs.lemmas.Nat.{pow-add, pow_below, one_shl}
-use Rattle.std.proofs.lemmas.Bool.{eqb-true, eq-eqb, leb-true, le-leb, lt-leb, and_parts, and_from, and_right, both_ways, cases_order}
+use Rattle.std.proofs.lemmas.Bool.{eqb-true, eq-eqb, leb-true, le-leb, lt-leb, and_parts, and_from, and_right, both_ways}
 use Rattle.faults.specs.declared.fault.Fault.TheVariants.{Field, Cover}
 use Rattle.faults.specs.Least.{Least}
 use Rattle.faults.proofs.Least.{row_first, row_last}
@@ -28,17 +28,11 @@ covers_not R s w d h =
     let p = pow_below 40 (s + w * d) h in
     and_right (leb R (2 ^ s * (2 ^ w) ^ d)) (leb (2 ^ s * (2 ^ w) ^ d) (2 ^ 40)) (lt-leb (2 ^ s * (2 ^ w) ^ d) (2 ^ 40) (rw e p))
 
-power_mono : (i j : ℕ) → i ≤ j → 2 ^ i ≤ 2 ^ j
-power_mono i j h = elim (cases_order i j) [
-  | inl e ↦ (let s : 2 ^ i ≡ 2 ^ j = ap (λ (n : ℕ). 2 ^ n) e in omega arith)
-  | inr o ↦ elim o [ inl l ↦ (let p = pow_below i j l in omega arith) | inr g ↦ absurd (omega arith) ]
-]
-
 pub covers_is : (R s w d : ℕ) → s + w * d ≤ 40 → leb R ((1 * 2 ^ (s + w * d)) % 2 ^ 64) ≡ covers R (2 ^ s) (2 ^ w) d
 covers_is R s w d h =
     let e = reach_is s w d in
     let o = one_shl (s + w * d) 64 (omega arith) in
-    let t : leb (2 ^ s * (2 ^ w) ^ d) (2 ^ 40) ≡ true = le-leb (2 ^ s * (2 ^ w) ^ d) (2 ^ 40) (rw e (power_mono (s + w * d) 40 h)) in
+    let t : leb (2 ^ s * (2 ^ w) ^ d) (2 ^ 40) ≡ true = le-leb (2 ^ s * (2 ^ w) ^ d) (2 ^ 40) (rw e (pow_mono h)) in
     rw (o, sym e) (sym (with-true (leb R (2 ^ s * (2 ^ w) ^ d)) (leb (2 ^ s * (2 ^ w) ^ d) (2 ^ 40)) t))
   where
     with-true : (a b : Bool) → b ≡ true → (a && b) ≡ a
@@ -53,10 +47,7 @@ pub log_power : (low high x : ℕ) → power_within low high x ≡ true → 2 ^ 
 log_power low high x t = log_eq x (and_parts (is_power x) (within low high x) t).0
 
 pub exponent_few : (k : ℕ) → 2 ^ k ≤ 65536 → k ≤ 16
-exponent_few k h = elim (cases_order k 17) [
-  | inl e ↦ absurd (let s : 2 ^ k ≡ 2 ^ 17 = ap (λ (n : ℕ). 2 ^ n) e in omega arith)
-  | inr o ↦ elim o [ inl l ↦ omega arith | inr g ↦ absurd (let p = pow_below 17 k g in omega arith) ]
-]
+exponent_few k h = let b : k < 17 = lt_of_not-le (λ (l : 17 ≤ k). let p : 2 ^ 17 ≤ 2 ^ k = pow_mono l in omega arith) in omega arith
 
 pub exponent_some : (k : ℕ) → 2 ≤ 2 ^ k → 1 ≤ k
 exponent_some zero h = absurd (omega arith)

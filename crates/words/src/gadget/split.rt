@@ -14,16 +14,7 @@ pub fn centred(word: u32, modulus: &Modulus) -> i64
     ensures value { result ≡ centred_of modulus.now.value word }
     ensures right { Centred modulus.now.value word result }
 {
-    representative(word, modulus.get())
-}
-
-fn representative(word: u32, modulus: u32) -> i64
-    requires low { 0 < modulus }
-    requires high { modulus < 2 ^ 31 }
-    ensures value { result ≡ centred_of modulus word }
-    ensures low { neg_ℤ (pos modulus) ≤ℤ result }
-    ensures high { result ≤ℤ pos modulus }
-{
+    let modulus = modulus.get();
     let x = word % modulus;
     if 2 * (x as u64) <= modulus as u64 {
         x as i64
@@ -38,15 +29,6 @@ fn base_of(width: u32) -> i64
     ensures { result ≡ pos (2 ^ width) }
 {
     1i64 << width
-}
-
-// Half of 2^width, rounded down.
-fn half_of(width: u32) -> i64
-    requires { width ≤ 16 }
-    ensures value { result ≡ pos (2 ^ width / 2) }
-    ensures small { result ≤ℤ pos 32768 }
-{
-    (1i64 << width) >> 1
 }
 
 // The quotient by 2^width, rounded down.
@@ -91,21 +73,13 @@ impl Gadget {
         ensures right { SplitRight self.now.modulus.value (2 ^ self.now.shift) (2 ^ self.now.width) self.now.digits word }
         ensures least { Least (WrongSplit self.now.digits (length out.old)) (split_refused self.now.digits (length out.old)) }
     {
-        self.split_into(word, out)
-    }
-
-    fn split_into(&self, word: u32, out: &mut [i64]) -> Result<(), Fault>
-        ensures answer { result ≡ told (split_refused self.now.digits (length out.old)) }
-        ensures digits { out.new ≡ (if is_ok result then split_of self.now.modulus.value (2 ^ self.now.shift) (2 ^ self.now.width) self.now.digits word else out.old) }
-    {
         if out.len() != self.digits as usize {
             return Err(Fault::Length {
                 list: 0,
                 part: Layer::Digits,
             });
         }
-        let u = self.scaled(word);
-        self.fill(u, out);
+        self.fill(self.scaled(word), out);
         Ok(())
     }
 
@@ -113,8 +87,8 @@ impl Gadget {
     fn scaled(&self, word: u32) -> i64
         ensures { result ≡ scaled_of self.now.modulus.value (2 ^ self.now.shift) word }
     {
-        let half = half_of(self.shift);
-        floor_by(representative(word, self.modulus.get()) + half, self.shift)
+        let half = base_of(self.shift) >> 1;
+        floor_by(centred(word, &self.modulus) + half, self.shift)
     }
 
     // The digits of a number, one to each place of `out`.
@@ -122,13 +96,12 @@ impl Gadget {
         requires { length out.old ≡ self.now.digits }
         ensures { out.new ≡ digits_of (2 ^ self.now.width) (length out.old) number }
     {
-        let last = out.len() - 1;
         let mut u = number;
-        for i in 0..last {
-            let (digit, rest) = self.step(u);
-            out[i] = digit;
-            u = rest;
+        if let Some((last, firsts)) = out.split_last_mut() {
+            for place in firsts {
+                (*place, u) = self.step(u);
+            }
+            *last = u;
         }
-        out[last] = u;
     }
 }

@@ -11,21 +11,21 @@ pub fn log_of(x: u32) -> u32
     ensures same { result ≡ log2 x }
     ensures few { result < 32 }
 {
-    31u32.saturating_sub(x.leading_zeros())
+    x.checked_ilog2().unwrap_or(0)
 }
 
 // Whether a number is a power of two.
 pub fn is_power(x: u32) -> bool
     ensures { result ≡ is_power x }
 {
-    x == 1 << log_of(x)
+    x.is_power_of_two()
 }
 
 // Whether a number lies from `low` to `high`.
 pub fn in_range(low: u32, high: u32, x: u32) -> bool
     ensures { result ≡ within low high x }
 {
-    low <= x && x <= high
+    (low..=high).contains(&x)
 }
 
 // Whether a number is a power of two from `low` to `high`.
@@ -49,33 +49,22 @@ pub fn is_switch(x: u32) -> bool
     power_in_range(32, 0x10_0000, x)
 }
 
-fn asked(x: u32) -> Result<Modulus, Fault>
-    ensures answer { refusal result ≡ modulus_broken x }
-    ensures made { IfOk result (λ m. m.value ≡ x) }
-{
-    if x % 2 == 1 {
-        if x < 17 {
-            return Err(Fault::Field { field: 3 });
-        }
-        if x > 0x7fff_ffff {
-            return Err(Fault::Field { field: 3 });
-        }
-        return Ok(Modulus { value: x });
-    }
-    if !is_switch(x) {
-        return Err(Fault::Field { field: 11 });
-    }
-    Ok(Modulus { value: x })
-}
-
 impl Modulus {
     // A modulus alone: odd as that of a ring, or a power of two of the switch.
+    #[tactic(auto, using(crate::proofs::Moduli::least_modulus))]
     pub fn checked(x: u32) -> Result<Modulus, Fault>
         ensures answer { refusal result ≡ modulus_broken x }
         ensures made { IfOk result (λ m. m.value ≡ x) }
         ensures least { Least (WrongModulus x) (modulus_broken x) }
     {
-        asked(x)
+        if x % 2 == 1 {
+            if x < 17 || x > 0x7fff_ffff {
+                return Err(Fault::Field { field: 3 });
+            }
+        } else if !is_switch(x) {
+            return Err(Fault::Field { field: 11 });
+        }
+        Ok(Modulus { value: x })
     }
 
     // Its value.

@@ -1,29 +1,26 @@
-use Rattle.std.proofs.Common.{◌≡◌, suc, ◌-◌, ◌^◌, length, ℤ, ap, ◌∙◌, arith, w64, SFits, to_z, of_z, rules}
+use Rattle.std.proofs.Common.{◌≡◌, ◌^◌, length, ℤ, ap, ◌∙◌, arith, w64, SFits, to_z, of_z, rules}
 use Rattle.std.proofs.lemmas.Int.{to_z-of_z}
 use Rattle.algebra.specs.Digits.{digit_of, rest_of}
 use Rattle.words.proofs.Filling.{digits_more, digits_end}
 use Rattle.words.proofs.gadget.Gadget.fill.Goals as goal
 
-pub loop-i-preserved : goal.loop-i-preserved
-loop-i-preserved c =
+pub loop-place-preserved : goal.loop-place-preserved
+loop-place-preserved c =
     let B = 2 ^ c.args.self.now.width in
-    let i = c.loop-i.u-is in
-    let fd : SFits w64 c.step-digit.result.0 = search rules in
-    let fr : SFits w64 c.step-digit.result.1 = search rules in
-    let d : to_z w64 (of_z w64 c.step-digit.result.0) ≡ digit_of B c.loop-i.u =
-    to_z-of_z w64 c.step-digit.result.0 fd ∙ c.step-digit.ensures.digit ∙ ap (λ (z : ℤ). digit_of B z) i in
-    let r : to_z w64 (of_z w64 c.step-digit.result.1) ≡ rest_of B c.loop-i.u =
-    to_z-of_z w64 c.step-digit.result.1 fr ∙ c.step-digit.ensures.rest ∙ ap (λ (z : ℤ). rest_of B z) i in
-    let m = digits_more c.loop-i.out B c.loop-i.i (length c.args.out.now - 1) c.loop-i.u (omega arith) (omega arith) in
-    rw (d, r) (m ∙ rw i at c.loop-i.invariant)
+    let i = c.loop-place.u-is in
+    let fd : SFits w64 c.step.result.0 = search rules in
+    let fr : SFits w64 c.step.result.1 = search rules in
+    let d : to_z w64 (of_z w64 c.step.result.0) ≡ digit_of B c.loop-place.u =
+    to_z-of_z w64 c.step.result.0 fd ∙ c.step.ensures.digit ∙ ap (λ (z : ℤ). digit_of B z) i in
+    let r : to_z w64 (of_z w64 c.step.result.1) ≡ rest_of B c.loop-place.u =
+    to_z-of_z w64 c.step.result.1 fr ∙ c.step.ensures.rest ∙ ap (λ (z : ℤ). rest_of B z) i in
+    let m = digits_more c.loop-place.place-items B c.loop-place.place-index (length c.in-Some.firsts.now) c.loop-place.u (omega arith) (omega arith) in
+    rw (d, r) (m ∙ rw i at c.loop-place.invariant)
 
-pub returns : goal.returns
-returns c =
-    let B = 2 ^ c.args.self.now.width in
-    let i = c.loop-i.u-is in
-    let e : c.loop-i.i ≡ length c.args.out.now - 1 = omega arith in
-    let a = digits_end c.loop-i.out B (length c.args.out.now - 1) c.loop-i.u (omega (arith, c.args.self.now.count)) in
+pub returns-after-loop-place : goal.returns-after-loop-place
+returns-after-loop-place c =
+    let i = c.loop-place.u-is in
     let v = to_z-of_z w64 c.args.number c.ranges.number in
-    let n = rw i at c.loop-i.invariant in
-    let k : suc (length c.args.out.now - 1) ≡ length c.args.out.now = omega (arith, c.args.self.now.count) in
-    rw i (a ∙ rw (e, v, k) at n)
+    let e : c.loop-place.place-index ≡ length c.in-Some.firsts.now = omega arith in
+    let n = rw (e, v, i) at c.loop-place.invariant in
+    rw i (digits_end c.loop-place.place-items (2 ^ c.args.self.now.width) (length c.in-Some.firsts.now) (length c.args.out.now) c.loop-place.u c.args.number (omega arith) (let h = c.in-Some.ensures.cases in omega arith) n)

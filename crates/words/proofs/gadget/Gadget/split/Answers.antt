@@ -1,17 +1,16 @@
-use Rattle.std.proofs.Common.{◌<◌, length, arith}
-use Rattle.faults.proofs.Least.{least_length}
-use Rattle.faults.specs.declared.fault.Fault.TheVariants.{Length}
-use Rattle.faults.specs.declared.fault.Layer.TheVariants.{Digits}
+use Rattle.std.proofs.Common.{ℕ, ◌^◌, ◌<◌, arith}
+use Rattle.words.specs.declared.gadget.Gadget.{Gadget}
+use Rattle.words.specs.Gadgets.{SplitRight}
 use Rattle.words.proofs.Cover.{split_right}
 use Rattle.words.proofs.gadget.Gadget.split.Goals as goal
 
-pub returns : goal.returns
-returns c =
-    let g = c.args.self.now in
+right_of : (g : Gadget) (x : ℕ) → SplitRight g.modulus.value (2 ^ g.shift) (2 ^ g.width) g.digits x
+right_of g x =
     let some : 0 < g.modulus.value = omega (arith, g.modulus.low) in
-    record {
-      answer = c.split_into.ensures.answer;
-      digits = c.split_into.ensures.digits;
-      right = split_right g.modulus.value g.shift g.width g.digits c.args.word some g.base.0 g.count.0 g.reach;
-      least = least_length (Length 0 Digits) (length c.args.out.now) g.digits;
-    }
+    split_right g.modulus.value g.shift g.width g.digits x some g.base.0 g.count.0 g.reach
+
+pub returns-then-out-self-clause-right : goal.returns-then-out-self-clause-right
+returns-then-out-self-clause-right c = right_of c.args.self.now c.args.word
+
+pub returns-clause-right : goal.returns-clause-right
+returns-clause-right c = right_of c.args.self.now c.args.word

@@ -1,17 +1,17 @@
-use Rattle.std.proofs.Common.{◌≡◌, ◌^◌, ◌<◌, ℤ, sym, ap, ◌∙◌, subst, arith, w64, to_z, of_z}
-use Rattle.std.proofs.lemmas.Int.{to_z-of_z}
+use Rattle.std.proofs.Common.{◌≡◌, ℕ, ◌%◌, ◌-ℤ◌, ◌<◌, ℤ, sym, subst, arith, rules, w64, to_z, of_z}
 use Rattle.words.specs.Digits.{centred_of}
 use Rattle.words.specs.Gadgets.{Centred}
-use Rattle.words.proofs.Centred.{centred_right, centred_fits}
+use Rattle.words.proofs.Centred.{centred_right}
 use Rattle.words.proofs.gadget.split.centred.Goals as goal
 
-pub returns : goal.returns
-returns c =
-    let R = c.args.modulus.now.value in
-    let g : c.get.result ≡ R = c.get.ensures.value in
-    let some : 0 < R = omega arith in
-    let few : R < 2 ^ 31 = omega arith in
-    let e : c.representative.result ≡ centred_of R c.args.word = c.representative.ensures.value ∙ ap (λ n. centred_of n c.args.word) g in
-    let v : to_z w64 (of_z w64 c.representative.result) ≡ centred_of R c.args.word =
-    ap (λ (z : ℤ). to_z w64 (of_z w64 z)) e ∙ to_z-of_z w64 _ (centred_fits R c.args.word some few) in
-    record { value = v; right = subst (λ (z : ℤ). Centred R c.args.word z) (sym v) (centred_right R c.args.word some) }
+right_from : (R x : ℕ) (v : ℤ) → 0 < R → v ≡ centred_of R x → Centred R x v
+right_from R x v some e = subst (λ (z : ℤ). Centred R x z) (sym e) (centred_right R x some)
+
+pub returns-then-x-modulus-clause-right : goal.returns-then-x-modulus-clause-right
+returns-then-x-modulus-clause-right c =
+    right_from c.args.modulus.now.value c.args.word (to_z w64 (c.args.word % c.get-modulus.result)) (omega arith) (search rules)
+
+pub returns-else-x-modulus-clause-right : goal.returns-else-x-modulus-clause-right
+returns-else-x-modulus-clause-right c =
+    right_from c.args.modulus.now.value c.args.word
+    (to_z w64 (of_z w64 (to_z w64 (c.args.word % c.get-modulus.result) -ℤ to_z w64 c.get-modulus.result))) (omega arith) (search rules)

@@ -1,24 +1,24 @@
 use Rattle.std.proofs.Common.{◌≡◌, ℕ, ◌+◌, ◌-◌, ◌*◌, ◌/◌, ◌%◌, ◌^◌, ◌<◌, ◌≤◌, ap, ◌∙◌, arith, pow_pos, pow_mono}
 use Rattle.rings.specs.Tables.{mirror, exponent}
 use Rattle.rings.proofs.Mirrors.{one_shift, row_of, spot_low, half_low}
-use Rattle.rings.proofs.tables.place.Goals as goal
+use Rattle.rings.proofs.tables.Rows.power_at.Goals as goal
 
-row : (c : goal.Start) → c.args.i / c.args.half < c.args.log
-row c = row_of c.args.log c.args.half c.args.i c.requires.size c.requires.within
+row : (c : goal.Start) → c.args.i / c.args.self.now.half < c.args.self.now.log
+row c = row_of c.args.self.now.log c.args.self.now.half c.args.i c.args.self.now.size c.requires
 
 pub overflow_shl-m : goal.overflow_shl-m
-overflow_shl-m c = omega (arith, row c, c.requires.few)
+overflow_shl-m c = omega (arith, row c, c.args.self.now.few.1)
 
 pub overflow_sub-result-2 : goal.overflow_sub-result-2
 overflow_sub-result-2 c = omega (arith, row c)
 
 pub nonzero_rem-i-2 : goal.nonzero_rem-i-2
 nonzero_rem-i-2 c =
-    let s : ℕ = c.args.i / c.args.half in
-    omega (arith, one_shift s (omega (arith, row c, c.requires.few)), pow_pos s)
+    let s : ℕ = c.args.i / c.args.self.now.half in
+    omega (arith, one_shift s (omega (arith, row c, c.args.self.now.few.1)), pow_pos s)
 
 pub mirrored-requires : goal.mirrored-requires
-mirrored-requires c = omega (arith, row c, c.requires.few)
+mirrored-requires c = omega (arith, row c, c.args.self.now.few.1)
 
 -- what is made of the mirrored number r of row s
 record Made (log half s r v : ℕ) : Type 0 where
@@ -36,11 +36,11 @@ made log half s r few size row low =
     record { few = omega arith; value = v; low = omega (arith, v, spot_low log half s r row size low); half-few = half_low log half few size }
 
 here : (c : goal.After-mirrored)
-    → Made c.args.log c.args.half (c.args.i / c.args.half) c.mirrored.result
-    (1 * 2 ^ (c.args.log - 1 - c.args.i / c.args.half) % 18446744073709551616 * (2 * c.mirrored.result + 1))
+    → Made c.args.self.now.log c.args.self.now.half (c.args.i / c.args.self.now.half) c.mirrored.result
+    (1 * 2 ^ (c.args.self.now.log - 1 - c.args.i / c.args.self.now.half) % 18446744073709551616 * (2 * c.mirrored.result + 1))
 here c =
-    made c.args.log c.args.half (c.args.i / c.args.half) c.mirrored.result c.requires.few c.requires.size
-    (row_of c.args.log c.args.half c.args.i c.requires.size c.requires.within)
+    made c.args.self.now.log c.args.self.now.half (c.args.i / c.args.self.now.half) c.mirrored.result c.args.self.now.few.1 c.args.self.now.size
+    (row_of c.args.self.now.log c.args.self.now.half c.args.i c.args.self.now.size c.requires)
     c.mirrored.ensures.low
 
 pub overflow_mul-result : goal.overflow_mul-result
@@ -55,10 +55,10 @@ overflow_mul-result-2 c = omega (arith, (here c).low, (here c).half-few)
 pub returns : goal.returns
 unfolding exponent
 returns c =
-    let s : ℕ = c.args.i / c.args.half in
-    let l = row_of c.args.log c.args.half c.args.i c.requires.size c.requires.within in
-    let m = ap (λ i. mirror s (c.args.i % c.args.half % i)) (one_shift s (omega (arith, l, c.requires.few))) in
+    let s : ℕ = c.args.i / c.args.self.now.half in
+    let l = row_of c.args.self.now.log c.args.self.now.half c.args.i c.args.self.now.size c.requires in
+    let m = ap (λ i. mirror s (c.args.i % c.args.self.now.half % i)) (one_shift s (omega (arith, l, c.args.self.now.few.1))) in
     record {
-      same = (here c).value ∙ ap (λ i. 2 ^ (c.args.log - 1 - s) * (2 * i + 1)) (c.mirrored.ensures.same ∙ m);
+      same = (here c).value ∙ ap (λ i. 2 ^ (c.args.self.now.log - 1 - s) * (2 * i + 1)) (c.mirrored.ensures.same ∙ m);
       low = (here c).low;
     }
