@@ -33,8 +33,8 @@ fn coefficient(start: u32, left: &[u32], right: &[u32], k: usize, modulus: u32) 
 {
     let whole = modulus as u64;
     let mut sum = start as u64 % whole;
-    for i in 0..right.len() {
-        let term = left[i] as u64 * shifted(right, i, k, modulus) as u64;
+    for (i, word) in left.iter().enumerate() {
+        let term = *word as u64 * shifted(right, i, k, modulus) as u64;
         sum = (sum + term) % whole;
     }
     sum as u32
@@ -49,8 +49,8 @@ fn multiply(modulus: u32, acc: &mut [u32], left: &[u32], right: &[u32])
     requires long { length acc.old ≤ 1024 }
     ensures { acc.new ≡ fused (length acc.old) modulus acc.old left.now right.now }
 {
-    for k in 0..acc.len() {
-        acc[k] = coefficient(acc[k], left, right, k, modulus);
+    for (k, word) in acc.iter_mut().enumerate() {
+        *word = coefficient(*word, left, right, k, modulus);
     }
 }
 
