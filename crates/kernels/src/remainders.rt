@@ -1,6 +1,6 @@
-ghost use Rattle.std.specs.Prelude.{◌≡◌, ℕ, [], ◌∷◌, ◌<◌, ◌↔◌, IsTrue, length};
+ghost use Rattle.std.specs.Prelude.{◌≡◌, ℕ, [], ◌∷◌, ◌<◌, ◌↔◌, IsTrue, OnOk, length};
 ghost use Rattle.kernels.specs.Lengths.{answer_to, after};
-ghost use Rattle.kernels.specs.Polynomials.{Below, reduced, poly_of};
+ghost use Rattle.kernels.specs.Polynomials.{Below, InRing, reduced, poly_of};
 
 use crate::lengths;
 use faults::fault::Fault;
@@ -42,6 +42,7 @@ pub fn reduce(ring: &Ring, words: &mut [u32])
 pub fn admit(ring: &Ring, words: &mut [u32], room: usize) -> Result<(), Fault>
     ensures answer { result ≡ answer_to ring.now (length words.old ∷ room ∷ []) }
     ensures words { words.new ≡ after result (poly_of ring.now words.old) words.old }
+    ensures poly { OnOk result (InRing ring.now words.new) }
 {
     lengths::check(ring, &[words.len(), room])?;
     reduce(ring, words);

@@ -3,6 +3,8 @@ use Rattle.std.proofs.Common.{◌≡◌, ℕ, ◌+◌, ◌-◌, ◌*◌, ◌/◌
 use native.Mathlib.Nat.{lt-div-mul-add}
 use native.Mathlib.Nat.{add-mul-mod_self_right}
 use Rattle.std.proofs.lemmas.Bool.{cases_lt}
+use Rattle.rings.specs.declared.ring.Ring.{Ring}
+use Rattle.transform.specs.Pointwise.{Barrett}
 
 swap_right : (x y z : ℕ) → x * y * z ≡ x * z * y
 swap_right x y z = mul_assoc x y z ∙ (ap (λ n. x * n) (mul_comm y z) ∙ sym (mul_assoc x z y))
@@ -68,14 +70,17 @@ product n u h k =
     let c : n * u ≤ 4294967295 * 4294967295 = mul-le-mul a b in
     omega arith
 
-pub guessed : (t Q u k : ℕ) → k < 32 → 2 ^ (k - 1) ≤ Q → Q < 2147483648 → u ≡ 2 ^ (k - 1) * 2 ^ (k + 1) / Q
-    → t < 2 ^ (k - 1) * 2 ^ (k + 1) → t < Q * Q → u < 4294967296 → Guessed t Q u k
-guessed t Q u k few bits fits e below square uw =
+guessed : (t Q u k : ℕ) → Barrett Q u k → t < Q * Q → u < 4294967296 → Guessed t Q u k
+guessed t Q u k set square uw =
+    let bits = set.low in
+    let few = set.few in
+    let fits = set.high in
+    let below : t < 2 ^ (k - 1) * 2 ^ (k + 1) = omega (arith, set.square) in
     let a0 : 0 < 2 ^ (k - 1) = pow_pos (k - 1) in
     let b0 : 0 < 2 ^ (k + 1) = pow_pos (k + 1) in
     let q0 : 0 < Q = omega arith in
     let r : (guess t u k * Q ≤ t) × (t < guess t u k * Q + (Q + (Q + Q))) =
-    barrett_bounds t Q u (2 ^ (k - 1)) (2 ^ (k + 1)) q0 a0 b0 bits below e in
+    barrett_bounds t Q u (2 ^ (k - 1)) (2 ^ (k + 1)) q0 a0 b0 bits below set.quotient in
     let bb : 2 ^ (k + 1) ≤ 2 ^ 32 = pow_mono {i = k + 1} {j = 32} (omega arith) in
     let na : t / 2 ^ (k - 1) * 2 ^ (k - 1) ≤ t = div-mul-le_self t (2 ^ (k - 1)) in
     let cm : 2 ^ (k - 1) * 2 ^ (k + 1) ≡ 2 ^ (k + 1) * 2 ^ (k - 1) = mul_comm (2 ^ (k - 1)) (2 ^ (k + 1)) in
@@ -85,6 +90,20 @@ guessed t Q u k few bits fits e below square uw =
     let hq : guess t u k * Q < Q * Q = omega arith in
     let hh : guess t u k < Q = lt_of_mul-lt-mul_right Q hq in
     record { top = nn; prod = product (t / 2 ^ (k - 1)) u nn uw; small = omega arith; low = r.0; high = r.1 }
+
+-- the numbers of a ring
+barrett_of : (r : Ring) → Barrett r.modulus r.mu r.bits
+barrett_of r = record {
+  some = r.width.0;
+  few = r.width.1;
+  low = r.width.2;
+  high = r.limits.2;
+  square = r.width.3;
+  quotient = r.barrett;
+}
+
+pub guessed_in : (r : Ring) (t : ℕ) → t < r.modulus * r.modulus → r.mu < 4294967296 → Guessed t r.modulus r.mu r.bits
+guessed_in r t = guessed t r.modulus r.mu r.bits (barrett_of r)
 
 -- a conditional subtraction of Q
 pub record Less (x Q r : ℕ) : Type 0 where

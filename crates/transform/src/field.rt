@@ -1,5 +1,7 @@
 ghost use Rattle.std.specs.Prelude.{◌≡◌, ℕ, ◌+◌, ◌-◌, ◌*◌, ◌/◌, ◌%◌, ◌^◌, ◌<◌, ◌≤◌};
 
+use rings::ring::Ring;
+
 // The remainder of x, for x below twice the modulus: the sign of x - modulus picks it, with no branch.
 pub fn reduce_once(x: u32, modulus: u32) -> u32
     requires low { x < modulus + modulus }
@@ -51,18 +53,13 @@ fn reduce_wide(x: u64, m: u64) -> u64
 }
 
 // The remainder of a product of two words below the modulus, by the quotient of 4^bits.
-pub fn barrett(t: u64, modulus: u32, mu: u32, bits: u32) -> u32
-    requires some { 0 < bits }
-    requires few { bits < 32 }
-    requires width { 2 ^ (bits - 1) ≤ modulus }
-    requires fits { modulus < 2 ^ 31 }
-    requires quotient { mu ≡ 2 ^ (bits - 1) * 2 ^ (bits + 1) / modulus }
-    requires below { t < 2 ^ (bits - 1) * 2 ^ (bits + 1) }
-    requires square { t < modulus * modulus }
-    ensures { result ≡ t % modulus }
+pub fn barrett(ring: &Ring, t: u64) -> u32
+    requires { t < ring.now.modulus * ring.now.modulus }
+    ensures { result ≡ t % ring.now.modulus }
 {
-    let top = (t >> (bits - 1)) as u32;
-    let guess = ((top as u64 * mu as u64) >> (bits + 1)) as u32;
-    let rest = t - guess as u64 * modulus as u64;
-    reduce_wide(reduce_wide(rest, modulus as u64), modulus as u64) as u32
+    let modulus = ring.modulus as u64;
+    let top = (t >> (ring.bits - 1)) as u32;
+    let guess = ((top as u64 * ring.mu as u64) >> (ring.bits + 1)) as u32;
+    let rest = t - guess as u64 * modulus;
+    reduce_wide(reduce_wide(rest, modulus), modulus) as u32
 }

@@ -1,32 +1,32 @@
-ghost use Rattle.std.specs.Prelude.{◌≡◌, ℕ, ◌+◌, ◌-◌, ◌*◌, ◌/◌, ◌%◌, ◌^◌, ◌<◌, ◌≤◌, true, length};
+ghost use Rattle.std.specs.Prelude.{◌≡◌, ℕ, ◌+◌, ◌-◌, ◌*◌, ◌/◌, ◌%◌, ◌^◌, ◌<◌, length};
 ghost use Rattle.kernels.specs.Polynomials.{Below};
 ghost use Rattle.kernels.specs.Reading.{folded};
-ghost use Rattle.transform.specs.Pointwise.{Barrett, fused_word, fused_at, scaled};
+ghost use Rattle.transform.specs.Pointwise.{fused_word, fused_at, scaled};
 ghost use Rattle.transform.specs.Reads.{reads};
 ghost use Rattle.transform.specs.Values.{values};
 
 use crate::field;
+use kernels::remainders::all_below;
 use rings::ring::Ring;
 
 // Each word times 1 / N.
 pub fn scale(ring: &Ring, words: &mut [u32])
     ensures { words.new ≡ scaled ring.now words.old }
 {
-    for i in 0..words.len() {
-        words[i] = field::mul_shoup(words[i], ring.inverse, ring.sharp, ring.modulus);
+    for word in words.iter_mut() {
+        *word = field::mul_shoup(*word, ring.inverse, ring.sharp, ring.modulus);
     }
 }
 
 // c + a b, for words below the modulus.
-fn fuse_word(c: u32, a: u32, b: u32, modulus: u32, mu: u32, bits: u32) -> u32
-    requires sum { c < modulus }
-    requires left { a < modulus }
-    requires right { b < modulus }
-    requires set { Barrett modulus mu bits }
-    ensures { result ≡ fused_word modulus c a b }
+fn fuse_word(ring: &Ring, c: u32, a: u32, b: u32) -> u32
+    requires sum { c < ring.now.modulus }
+    requires left { a < ring.now.modulus }
+    requires right { b < ring.now.modulus }
+    ensures { result ≡ fused_word ring.now.modulus c a b }
 {
-    let product = field::barrett(a as u64 * b as u64, modulus, mu, bits);
-    field::reduce_once(c + product, modulus)
+    let product = field::barrett(ring, a as u64 * b as u64);
+    field::reduce_once(c + product, ring.modulus)
 }
 
 // c + a b at each place, for words below the modulus.
@@ -38,11 +38,8 @@ fn fuse_low(ring: &Ring, acc: &mut [u32], left: &[u32], right: &[u32])
     requires third { Below ring.now.modulus right.now }
     ensures { acc.new ≡ fused_at ring.now acc.old left.now right.now }
 {
-    let modulus = ring.modulus;
-    let mu = ring.mu;
-    let bits = ring.bits;
-    for i in 0..acc.len() {
-        acc[i] = fuse_word(acc[i], left[i], right[i], modulus, mu, bits);
+    for (i, word) in acc.iter_mut().enumerate() {
+        *word = fuse_word(ring, *word, left[i], right[i]);
     }
 }
 
@@ -53,24 +50,9 @@ fn fuse_any(ring: &Ring, acc: &mut [u32], left: &[u32], right: &[u32])
     ensures { acc.new ≡ fused_at ring.now acc.old left.now right.now }
 {
     let modulus = ring.modulus as u64;
-    for i in 0..acc.len() {
-        acc[i] = ((acc[i] as u64 + left[i] as u64 * right[i] as u64 % modulus) % modulus) as u32;
+    for (i, word) in acc.iter_mut().enumerate() {
+        *word = ((*word as u64 + left[i] as u64 * right[i] as u64 % modulus) % modulus) as u32;
     }
-}
-
-// Whether all words of three lists lie below the modulus: one pass, with no branch.
-fn all_reduced(modulus: u32, acc: &[u32], left: &[u32], right: &[u32]) -> bool
-    requires one { length left.now ≡ length acc.now }
-    requires other { length right.now ≡ length acc.now }
-    ensures first { result ≡ true → Below modulus acc.now }
-    ensures second { result ≡ true → Below modulus left.now }
-    ensures third { result ≡ true → Below modulus right.now }
-{
-    let mut high = false;
-    for i in 0..acc.len() {
-        high = high | (acc[i] >= modulus) | (left[i] >= modulus) | (right[i] >= modulus);
-    }
-    !high
 }
 
 // c + a b at each place; nothing is divided where all words are reduced.
@@ -79,7 +61,8 @@ fn fuse(ring: &Ring, acc: &mut [u32], left: &[u32], right: &[u32])
     requires other { length right.now ≡ length acc.old }
     ensures { acc.new ≡ fused_at ring.now acc.old left.now right.now }
 {
-    if all_reduced(ring.modulus, acc, left, right) {
+    let modulus = ring.modulus;
+    if all_below(acc, modulus) & all_below(left, modulus) & all_below(right, modulus) {
         fuse_low(ring, acc, left, right);
     } else {
         fuse_any(ring, acc, left, right);
