@@ -7,7 +7,7 @@ use faults::fault::Fault;
 use rings::ring::Ring;
 
 // Whether all words lie below the modulus: one pass, with no branch.
-pub fn all_below(words: &[u32], modulus: u32) -> bool
+fn all_below(words: &[u32], modulus: u32) -> bool
     ensures { IsTrue result ↔ Below modulus words.now }
 {
     let mut low = true;

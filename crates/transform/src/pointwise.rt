@@ -1,4 +1,4 @@
-ghost use Rattle.std.specs.Prelude.{◌≡◌, ℕ, ◌+◌, ◌-◌, ◌*◌, ◌/◌, ◌%◌, ◌^◌, ◌<◌, length};
+ghost use Rattle.std.specs.Prelude.{◌≡◌, ℕ, ◌+◌, ◌-◌, ◌*◌, ◌/◌, ◌%◌, ◌^◌, ◌<◌, true, length};
 ghost use Rattle.kernels.specs.Polynomials.{Below};
 ghost use Rattle.kernels.specs.Reading.{folded};
 ghost use Rattle.transform.specs.Pointwise.{fused_word, fused_at, scaled};
@@ -6,7 +6,6 @@ ghost use Rattle.transform.specs.Reads.{reads};
 ghost use Rattle.transform.specs.Values.{values};
 
 use crate::field;
-use kernels::remainders::all_below;
 use rings::ring::Ring;
 
 // Each word times 1 / N.
@@ -55,14 +54,28 @@ fn fuse_any(ring: &Ring, acc: &mut [u32], left: &[u32], right: &[u32])
     }
 }
 
+// Whether all words of three lists lie below the modulus: one pass, with no branch.
+fn all_reduced(modulus: u32, acc: &[u32], left: &[u32], right: &[u32]) -> bool
+    requires one { length left.now ≡ length acc.now }
+    requires other { length right.now ≡ length acc.now }
+    ensures first { result ≡ true → Below modulus acc.now }
+    ensures second { result ≡ true → Below modulus left.now }
+    ensures third { result ≡ true → Below modulus right.now }
+{
+    let mut high = false;
+    for (i, word) in acc.iter().enumerate() {
+        high = high | (*word >= modulus) | (left[i] >= modulus) | (right[i] >= modulus);
+    }
+    !high
+}
+
 // c + a b at each place; nothing is divided where all words are reduced.
 fn fuse(ring: &Ring, acc: &mut [u32], left: &[u32], right: &[u32])
     requires one { length left.now ≡ length acc.old }
     requires other { length right.now ≡ length acc.old }
     ensures { acc.new ≡ fused_at ring.now acc.old left.now right.now }
 {
-    let modulus = ring.modulus;
-    if all_below(acc, modulus) & all_below(left, modulus) & all_below(right, modulus) {
+    if all_reduced(ring.modulus, acc, left, right) {
         fuse_low(ring, acc, left, right);
     } else {
         fuse_any(ring, acc, left, right);

@@ -58,11 +58,11 @@ fn unstage(y: &[u32], x: &mut [u32], roots: &Roots)
     requires words { Below roots.now.modulus y.now }
     ensures { Unstaged roots.now.modulus roots.now.factors.now y.now x.new (length roots.now.factors.now) }
 {
-    let h = roots.factors.len();
-    for j in 0..h {
+    let (front, back) = x.split_at_mut(roots.factors.len());
+    for (j, first) in front.iter_mut().enumerate() {
         let (low, high) = unbutterfly(y, roots, j);
-        x[j] = low;
-        x[j + h] = high;
+        *first = low;
+        back[j] = high;
     }
 }
 
