@@ -58,20 +58,12 @@ guess t u k = t / 2 ^ (k - 1) * u / 2 ^ (k + 1)
 
 pub record Guessed (t Q u k : ℕ) : Type 0 where
   pub top : t / 2 ^ (k - 1) < 4294967296
-  pub prod : t / 2 ^ (k - 1) * u < 18446744073709551616
   pub small : guess t u k < 4294967296
   pub low : guess t u k * Q ≤ t
   pub high : t < guess t u k * Q + (Q + (Q + Q))
 
-product : (n u : ℕ) → n < 4294967296 → u < 4294967296 → n * u < 18446744073709551616
-product n u h k =
-    let a : n ≤ 4294967295 = omega arith in
-    let b : u ≤ 4294967295 = omega arith in
-    let c : n * u ≤ 4294967295 * 4294967295 = mul-le-mul a b in
-    omega arith
-
-guessed : (t Q u k : ℕ) → Barrett Q u k → t < Q * Q → u < 4294967296 → Guessed t Q u k
-guessed t Q u k set square uw =
+guessed : (t Q u k : ℕ) → Barrett Q u k → t < Q * Q → Guessed t Q u k
+guessed t Q u k set square =
     let bits = set.low in
     let few = set.few in
     let fits = set.high in
@@ -89,7 +81,7 @@ guessed t Q u k set square uw =
     let nn : t / 2 ^ (k - 1) < 4294967296 = omega arith in
     let hq : guess t u k * Q < Q * Q = omega arith in
     let hh : guess t u k < Q = lt_of_mul-lt-mul_right Q hq in
-    record { top = nn; prod = product (t / 2 ^ (k - 1)) u nn uw; small = omega arith; low = r.0; high = r.1 }
+    record { top = nn; small = omega arith; low = r.0; high = r.1 }
 
 -- the numbers of a ring
 barrett_of : (r : Ring) → Barrett r.modulus r.mu r.bits
@@ -102,16 +94,13 @@ barrett_of r = record {
   quotient = r.barrett;
 }
 
-pub guessed_in : (r : Ring) (t : ℕ) → t < r.modulus * r.modulus → r.mu < 4294967296 → Guessed t r.modulus r.mu r.bits
+pub guessed_in : (r : Ring) (t : ℕ) → t < r.modulus * r.modulus → Guessed t r.modulus r.mu r.bits
 guessed_in r t = guessed t r.modulus r.mu r.bits (barrett_of r)
 
 -- a conditional subtraction of Q
 pub record Less (x Q r : ℕ) : Type 0 where
   pub low : x < Q → r ≡ x
   pub high : Q ≤ x → r ≡ x - Q
-
-pub not_more : (x Q r : ℕ) → Less x Q r → r ≤ x
-not_more x Q r a = elim (cases_lt x Q) [ inl l ↦ omega (arith, a.low l) | inr l ↦ omega (arith, a.high l) ]
 
 -- two of them, from x below 3 Q
 twice : (x Q r s : ℕ) → x < Q + (Q + Q) → Less x Q r → Less r Q s → (s < Q) × ((i : ℕ) × (i * Q + s ≡ x))

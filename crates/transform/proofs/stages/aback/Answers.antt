@@ -5,16 +5,6 @@ use Rattle.transform.specs.Rows.{some}
 use Rattle.transform.specs.Steps.{unstaged_from, unstaged_below}
 use Rattle.transform.proofs.stages.aback.Goals as goal
 
-pub unstage-requires : goal.unstage-requires
-unstage-requires c =
-    let r = c.args.ring.now in
-    let w = c.of-roots.ensures in
-    record {
-      pairs = omega (arith, w.long, c.requires.from.0, r.range.2);
-      halves = omega (arith, w.long, c.requires.to, r.range.2);
-      words = λ k h. omega (arith, c.requires.from.1 k h, w.modulus);
-    }
-
 pub returns : goal.returns
 returns c =
     let r = c.args.ring.now in

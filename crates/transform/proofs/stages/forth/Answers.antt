@@ -5,16 +5,6 @@ use Rattle.transform.specs.Rows.{some}
 use Rattle.transform.specs.Steps.{staged_from, staged_below}
 use Rattle.transform.proofs.stages.forth.Goals as goal
 
-pub stage-requires : goal.stage-requires
-stage-requires c =
-    let r = c.args.ring.now in
-    let w = c.of-roots.ensures in
-    record {
-      halves = omega (arith, w.long, c.requires.from.0, r.range.2);
-      pairs = omega (arith, w.long, c.requires.to, r.range.2);
-      words = λ k h. omega (arith, c.requires.from.1 k h, w.modulus);
-    }
-
 pub returns : goal.returns
 returns c =
     let r = c.args.ring.now in

@@ -2,12 +2,6 @@ use Rattle.std.proofs.Common.{sym, ◌∙◌}
 use Rattle.transform.specs.Rows.{row_fits, row_quotients}
 use Rattle.transform.proofs.roots.Roots.of.Goals as goal
 
-pub row_of-requires : goal.row_of-requires
-row_of-requires c = row_fits c.args.ring.now c.args.s c.requires
-
-pub row_of-requires-2 : goal.row_of-requires-2
-row_of-requires-2 c = row_fits c.args.ring.now c.args.s c.requires
-
 pub invariant_of-result : goal.invariant_of-result
 invariant_of-result c =
     let r = c.args.ring.now in
