@@ -1,13 +1,10 @@
 -- Barrett's remainder is exact: a guess of the quotient that is at most 2 too small, and two conditional subtractions.
 use Rattle.std.proofs.Common.{◌≡◌, ℕ, ◌+◌, ◌-◌, ◌*◌, ◌/◌, ◌%◌, ◌^◌, ◌<◌, ◌≤◌, ◌⊎◌, sym, ap, ◌∙◌, inl, inr, mul-le-mul_right, mod-eq_of_lt, mul_assoc, mul_comm, add-mul, mul-le-mul, lt_of_mul-lt-mul_right, mul-le-mul_left, mul-lt-mul_of_pos_right, mul-add, div-mul-le_self, le_of_mul-le-mul_right, arith, pow_pos, pow_mono}
-use native.Mathlib.Nat.{lt-div-mul-add}
-use native.Mathlib.Nat.{add-mul-mod_self_right}
+use native.Mathlib.Nat.{lt-div-mul-add, add-mul-mod_self_right}
+use Rattle.std.proofs.Math.Nat.{mul_right_comm}
 use Rattle.std.proofs.lemmas.Bool.{cases_lt}
 use Rattle.rings.specs.declared.ring.Ring.{Ring}
 use Rattle.transform.specs.Pointwise.{Barrett}
-
-swap_right : (x y z : ℕ) → x * y * z ≡ x * z * y
-swap_right x y z = mul_assoc x y z ∙ (ap (λ n. x * n) (mul_comm y z) ∙ sym (mul_assoc x z y))
 
 -- n = t / a, u = a b / Q and h = n u / b, each rounded down
 near : (t Q u a b n h : ℕ) → 0 < Q → 0 < b → a ≤ Q → n ≤ b → n * a ≤ t → t < n * a + a
@@ -19,7 +16,7 @@ near t Q u a b n h q0 b0 aq nb na nt ul ut hl ht =
     let p3 : n * a * b ≤ t * b = mul-le-mul_right b na in
     let e1 : n * u * Q ≡ n * (u * Q) = mul_assoc n u Q in
     let e2 : n * a * b ≡ n * (a * b) = mul_assoc n a b in
-    let e3 : h * b * Q ≡ h * Q * b = swap_right h b Q in
+    let e3 : h * b * Q ≡ h * Q * b = mul_right_comm h b Q in
     let low : h * Q * b ≤ t * b = omega arith in
     let p4 : t * b < (n * a + a) * b = mul-lt-mul_of_pos_right nt b0 in
     let e4 : (n * a + a) * b ≡ n * a * b + a * b = add-mul (n * a) a b in
@@ -124,12 +121,3 @@ remains t Q u k r s p a b =
     let near : t - guess t u k * Q < Q + (Q + Q) = omega (arith, p.low, p.high) in
     let w = twice (t - guess t u k * Q) Q r s near a b in
     (w.0, is_rest t Q (guess t u k) s p.low w)
-
--- a product of two words below Q
-pub product_low : (x y Q : ℕ) → x < Q → y < Q → x * y < Q * Q
-product_low x y Q h k =
-    let yq : y ≤ Q = omega arith in
-    let q0 : 0 < Q = omega arith in
-    let a : x * y ≤ x * Q = mul-le-mul_left x yq in
-    let b : x * Q < Q * Q = mul-lt-mul_of_pos_right h q0 in
-    omega arith

@@ -1,6 +1,5 @@
 -- Shoup's product is exact.
 use Rattle.std.proofs.Common.{◌≡◌, ℕ, ◌+◌, ◌-◌, ◌*◌, ◌/◌, ◌%◌, ◌<◌, ◌≤◌, sym, ap, ◌∙◌, mul-le-mul_right, mod-eq_of_lt, mul_assoc, add-mul, mul-le-mul_left, mul-lt-mul_of_pos_right, mul-add, div-mul-le_self, arith}
-use native.Mathlib.Nat.{mod-eq-sub-mod}
 use native.Mathlib.Nat.{lt-div-mul-add, add-mul-mod_self_right}
 
 -- a difference modulo 2^32 is exact where the difference is in range

@@ -1,7 +1,7 @@
 use Rattle.std.proofs.Common.{◌≡◌, ℕ, ◌*◌, ◌<◌, List, length, get_or, sym, ap, ◌∙◌, subst, arith}
 use Rattle.kernels.specs.Polynomials.{Below}
 use Rattle.transform.specs.Stages.{unstaged}
-use Rattle.transform.specs.Rows.{some}
+use Rattle.kernels.specs.PlainKernelLemmas.{some}
 use Rattle.transform.specs.Steps.{unstaged_from, unstaged_below}
 use Rattle.transform.proofs.stages.aback.Goals as goal
 
