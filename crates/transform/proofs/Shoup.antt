@@ -1,6 +1,37 @@
--- Shoup's product is exact.
+-- One conditional subtraction, and Shoup's product: both are exact.
 use Rattle.std.proofs.Common.{◌≡◌, ℕ, ◌+◌, ◌-◌, ◌*◌, ◌/◌, ◌%◌, ◌<◌, ◌≤◌, sym, ap, ◌∙◌, mul-le-mul_right, mod-eq_of_lt, mul_assoc, add-mul, mul-le-mul_left, mul-lt-mul_of_pos_right, mul-add, div-mul-le_self, arith}
-use native.Mathlib.Nat.{lt-div-mul-add, add-mul-mod_self_right}
+use native.Mathlib.Nat.{mod-eq-sub-mod, lt-div-mul-add, add-mul-mod_self_right}
+
+once_low : (x Q : ℕ) → x < Q → x ≡ x % Q
+once_low x Q h = sym (mod-eq_of_lt h)
+
+once_high : (x Q : ℕ) → Q ≤ x → x < Q + Q → x - Q ≡ x % Q
+once_high x Q h k =
+    let l : x - Q < Q = omega arith in
+    sym (mod-eq-sub-mod {n = x} {m = Q} h ∙ mod-eq_of_lt l)
+
+-- x - y as the code makes it, modulo 2^32: its highest bit is its sign
+abbrev wrapped : ℕ → ℕ → ℕ
+wrapped x y = (x + (4294967296 - y)) % 4294967296
+
+pub reduce_high : (x Q : ℕ) → x < Q + Q → Q < 2147483648 → wrapped x Q < 2147483648 → wrapped x Q ≡ x % Q
+reduce_high x Q l f s =
+    let h : Q ≤ x = omega arith in
+    let e : wrapped x Q ≡ x - Q = omega arith in
+    e ∙ once_high x Q h l
+
+pub subtract_high : (u v Q : ℕ) → u < Q → v < Q → Q < 2147483648 → wrapped u v < 2147483648 → wrapped u v ≡ (u + (Q - v)) % Q
+subtract_high u v Q a b f s =
+    let h : v ≤ u = omega arith in
+    let e : wrapped u v ≡ u + (Q - v) - Q = omega arith in
+    e ∙ once_high (u + (Q - v)) Q (omega arith) (omega arith)
+
+pub subtract_low : (u v Q : ℕ) → u < Q → v < Q → Q < 2147483648 → 2147483648 ≤ wrapped u v
+    → (wrapped u v + Q) % 4294967296 ≡ (u + (Q - v)) % Q
+subtract_low u v Q a b f s =
+    let h : u < v = omega arith in
+    let e : (wrapped u v + Q) % 4294967296 ≡ u + (Q - v) = omega arith in
+    e ∙ once_low (u + (Q - v)) Q (omega arith)
 
 -- a difference modulo 2^32 is exact where the difference is in range
 wrap_sub : (a b : ℕ) → b ≤ a → a < b + 4294967296

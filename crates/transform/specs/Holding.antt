@@ -1,6 +1,6 @@
 -- A stage keeps what the blocks of an array hold.
 use Rattle.std.specs.Prelude.{◌≡◌, ℕ, suc, ◌+◌, ◌-◌, ◌*◌, ◌/◌, ◌%◌, ◌^◌, ◌<◌, ◌≤◌, List, length, slice_index, slice_index_or, refl}
-use Rattle.std.proofs.Common.{sym, ◌∙◌, ap, subst, mul-add, add-mul, mul_assoc, mul_comm, mul_left_comm, mul-le-mul_right, mod-eq_of_lt, mod-lt, mul-one, one-mul, zero-mul, add-zero, arith, pow-add}
+use Rattle.std.proofs.Common.{sym, ◌∙◌, ap, subst, mul-add, add-mul, mul_assoc, mul_comm, mul_left_comm, mod-eq_of_lt, mod-lt, mul-one, one-mul, zero-mul, add-zero, arith, pow-add}
 use Rattle.std.proofs.Math.Nat.{mod-mod, add-mod-mod, add-mod_right, mul-add-mod_self_right}
 use Rattle.std.proofs.lemmas.Nat.{mul-add-lt}
 use Rattle.rings.specs.Tables.{mirror}

@@ -1,6 +1,6 @@
 -- The rows of a ring's tables.
 use Rattle.std.specs.Prelude.{◌≡◌, ℕ, ◌+◌, ◌-◌, ◌*◌, ◌/◌, ◌%◌, ◌^◌, ◌<◌, ◌≤◌, List, length, drop, slice_index, slice_index_or}
-use Rattle.std.proofs.Common.{sym, ◌∙◌, ap, mod-lt, mul-le-mul_right, add-mul, one-mul, mod-eq_of_lt, add-zero, arith, pow-add, length-take, length-drop, get_or-take, get_or-drop}
+use Rattle.std.proofs.Common.{sym, ◌∙◌, ap, mod-lt, mod-eq_of_lt, add-zero, arith, pow-add, length-take, length-drop, get_or-take, get_or-drop}
 use Rattle.std.proofs.Math.Nat.{mod-mod, mul-add-div_right, mul-add-mod_self_right, div-eq_of_lt}
 use Rattle.std.proofs.lemmas.Nat.{mul-add-lt}
 use Rattle.rings.specs.declared.ring.Ring.{Ring}

@@ -3,44 +3,41 @@ ghost use Rattle.std.specs.Prelude.{◌≡◌, ℕ, ◌+◌, ◌-◌, ◌*◌, �
 use rings::ring::Ring;
 
 // The remainder of x, for x below twice the modulus: the sign of x - modulus picks it, with no branch.
-pub fn reduce_once(x: u32, modulus: u32) -> u32
-    requires low { x < modulus + modulus }
-    requires fits { modulus < 2 ^ 31 }
-    ensures { result ≡ x % modulus }
+pub fn reduce_once(ring: &Ring, x: u32) -> u32
+    requires { x < ring.now.modulus + ring.now.modulus }
+    ensures { result ≡ x % ring.now.modulus }
 {
     // Kept: with `min` here and in subtract a turn at plain x86-64 takes 9.89 microseconds against 7.82.
-    let less = x.wrapping_sub(modulus);
+    let less = x.wrapping_sub(ring.modulus);
     if less < 0x8000_0000 { less } else { x }
 }
 
 // u - v modulo the modulus, for both below it.
-pub fn subtract(u: u32, v: u32, modulus: u32) -> u32
-    requires left { u < modulus }
-    requires right { v < modulus }
-    requires fits { modulus < 2 ^ 31 }
-    ensures { result ≡ (u + (modulus - v)) % modulus }
+pub fn subtract(ring: &Ring, u: u32, v: u32) -> u32
+    requires left { u < ring.now.modulus }
+    requires right { v < ring.now.modulus }
+    ensures { result ≡ (u + (ring.now.modulus - v)) % ring.now.modulus }
 {
     // Kept: with `min` here and in reduce_once a turn at plain x86-64 takes 9.89 microseconds against 7.82.
     let less = u.wrapping_sub(v);
     if less < 0x8000_0000 {
         less
     } else {
-        less.wrapping_add(modulus)
+        less.wrapping_add(ring.modulus)
     }
 }
 
 // x times a factor whose quotient is known, with no division.
-pub fn mul_shoup(x: u32, factor: u32, quotient: u32, modulus: u32) -> u32
-    requires low { factor < modulus }
-    requires fits { modulus < 2 ^ 31 }
-    requires shoup { quotient ≡ factor * 2 ^ 32 / modulus }
-    ensures { result ≡ x * factor % modulus }
+pub fn mul_shoup(ring: &Ring, x: u32, factor: u32, quotient: u32) -> u32
+    requires low { factor < ring.now.modulus }
+    requires shoup { quotient ≡ factor * 2 ^ 32 / ring.now.modulus }
+    ensures { result ≡ x * factor % ring.now.modulus }
 {
     let high = ((x as u64 * quotient as u64) >> 32) as u32;
     let rest = x
         .wrapping_mul(factor)
-        .wrapping_sub(high.wrapping_mul(modulus));
-    reduce_once(rest, modulus)
+        .wrapping_sub(high.wrapping_mul(ring.modulus));
+    reduce_once(ring, rest)
 }
 
 // x less m where x is at least m, with no branch.

@@ -13,7 +13,7 @@ pub fn scale(ring: &Ring, words: &mut [u32])
     ensures { words.new ≡ scaled ring.now words.old }
 {
     for word in words.iter_mut() {
-        *word = field::mul_shoup(*word, ring.inverse, ring.sharp, ring.modulus);
+        *word = field::mul_shoup(ring, *word, ring.inverse, ring.sharp);
     }
 }
 
@@ -25,7 +25,7 @@ fn fuse_word(ring: &Ring, c: u32, a: u32, b: u32) -> u32
     ensures { result ≡ fused_word ring.now.modulus c a b }
 {
     let product = field::barrett(ring, a as u64 * b as u64);
-    field::reduce_once(c + product, ring.modulus)
+    field::reduce_once(ring, c + product)
 }
 
 // c + a b at each place, for words below the modulus.

@@ -7,12 +7,11 @@ use rings::ring::Ring;
 // The roots of a stage, with the quotients that multiplication by them wants.
 #[derive(Clone, Copy)]
 pub struct Roots<'a> {
+    pub ring: &'a Ring,
     pub factors: &'a [u32],
     pub quotients: &'a [u32],
-    pub modulus: u32,
-    ghost fits: { modulus < 2 ^ 31 },
     ghost long: { length quotients.now ≡ length factors.now },
-    ghost shoup: { Quotients modulus factors.now quotients.now },
+    ghost shoup: { Quotients ring.now.modulus factors.now quotients.now },
 }
 
 // Row s of a table.
@@ -31,20 +30,20 @@ impl Roots<'_> {
         requires { s < ring.now.log }
         ensures factors { result.factors.now ≡ row s ring.now.half ring.now.roots }
         ensures long { length result.factors.now ≡ ring.now.half }
-        ensures modulus { result.modulus ≡ ring.now.modulus }
+        ensures ring { result.ring.now ≡ ring.now }
     {
         Roots {
+            ring,
             factors: row_of(&ring.roots, s, ring.half),
             quotients: row_of(&ring.quotients, s, ring.half),
-            modulus: ring.modulus,
         }
     }
 
     // x times root j.
     pub fn times(&self, x: u32, j: usize) -> u32
         requires { j < length self.now.factors.now }
-        ensures { result ≡ x * slice_index self.now.factors.now j % self.now.modulus }
+        ensures { result ≡ x * slice_index self.now.factors.now j % self.now.ring.now.modulus }
     {
-        field::mul_shoup(x, self.factors[j], self.quotients[j], self.modulus)
+        field::mul_shoup(self.ring, x, self.factors[j], self.quotients[j])
     }
 }

@@ -11,14 +11,14 @@ use rings::ring::Ring;
 fn butterfly(x: &[u32], roots: &Roots, j: usize) -> (u32, u32)
     requires pair { j < length roots.now.factors.now }
     requires halves { length x.now ≡ 2 * length roots.now.factors.now }
-    requires words { Below roots.now.modulus x.now }
-    ensures even { result.0 ≡ plus roots.now.modulus roots.now.factors.now x.now j }
-    ensures odd { result.1 ≡ minus roots.now.modulus roots.now.factors.now x.now j }
+    requires words { Below roots.now.ring.now.modulus x.now }
+    ensures even { result.0 ≡ plus roots.now.ring.now.modulus roots.now.factors.now x.now j }
+    ensures odd { result.1 ≡ minus roots.now.ring.now.modulus roots.now.factors.now x.now j }
 {
     let u = x[j];
     let v = roots.times(x[j + roots.factors.len()], j);
-    let sum = field::reduce_once(u + v, roots.modulus);
-    let difference = field::subtract(u, v, roots.modulus);
+    let sum = field::reduce_once(roots.ring, u + v);
+    let difference = field::subtract(roots.ring, u, v);
     (sum, difference)
 }
 
@@ -26,8 +26,8 @@ fn butterfly(x: &[u32], roots: &Roots, j: usize) -> (u32, u32)
 fn stage(x: &[u32], y: &mut [u32], roots: &Roots)
     requires halves { length x.now ≡ 2 * length roots.now.factors.now }
     requires pairs { length y.old ≡ 2 * length roots.now.factors.now }
-    requires words { Below roots.now.modulus x.now }
-    ensures { Staged roots.now.modulus roots.now.factors.now x.now y.new (length roots.now.factors.now) }
+    requires words { Below roots.now.ring.now.modulus x.now }
+    ensures { Staged roots.now.ring.now.modulus roots.now.factors.now x.now y.new (length roots.now.factors.now) }
 {
     // Counted by hand: chunks_exact_mut(2) was tried, and says nothing of what the slice ends as, so `returns` stayed open.
     for j in 0..roots.factors.len() {
@@ -41,14 +41,14 @@ fn stage(x: &[u32], y: &mut [u32], roots: &Roots)
 fn unbutterfly(y: &[u32], roots: &Roots, j: usize) -> (u32, u32)
     requires pair { j < length roots.now.factors.now }
     requires pairs { length y.now ≡ 2 * length roots.now.factors.now }
-    requires words { Below roots.now.modulus y.now }
-    ensures low { result.0 ≡ sums roots.now.modulus y.now j }
-    ensures high { result.1 ≡ diffs roots.now.modulus roots.now.factors.now y.now j }
+    requires words { Below roots.now.ring.now.modulus y.now }
+    ensures low { result.0 ≡ sums roots.now.ring.now.modulus y.now j }
+    ensures high { result.1 ≡ diffs roots.now.ring.now.modulus roots.now.factors.now y.now j }
 {
     let u = y[2 * j];
     let v = y[2 * j + 1];
-    let low = field::reduce_once(u + v, roots.modulus);
-    let high = roots.times(v + (roots.modulus - u), roots.factors.len() - 1 - j);
+    let low = field::reduce_once(roots.ring, u + v);
+    let high = roots.times(v + (roots.ring.modulus - u), roots.factors.len() - 1 - j);
     (low, high)
 }
 
@@ -56,8 +56,8 @@ fn unbutterfly(y: &[u32], roots: &Roots, j: usize) -> (u32, u32)
 fn unstage(y: &[u32], x: &mut [u32], roots: &Roots)
     requires pairs { length y.now ≡ 2 * length roots.now.factors.now }
     requires halves { length x.old ≡ 2 * length roots.now.factors.now }
-    requires words { Below roots.now.modulus y.now }
-    ensures { Unstaged roots.now.modulus roots.now.factors.now y.now x.new (length roots.now.factors.now) }
+    requires words { Below roots.now.ring.now.modulus y.now }
+    ensures { Unstaged roots.now.ring.now.modulus roots.now.factors.now y.now x.new (length roots.now.factors.now) }
 {
     let (front, back) = x.split_at_mut(roots.factors.len());
     for (j, first) in front.iter_mut().enumerate() {

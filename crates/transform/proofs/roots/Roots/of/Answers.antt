@@ -1,5 +1,5 @@
 use Rattle.std.proofs.Common.{sym, ◌∙◌}
-use Rattle.transform.specs.Rows.{row_fits, row_quotients}
+use Rattle.transform.specs.Rows.{row_quotients}
 use Rattle.transform.proofs.roots.Roots.of.Goals as goal
 
 pub invariant_of-result : goal.invariant_of-result
@@ -8,7 +8,6 @@ invariant_of-result c =
     let w = c.row_of.ensures in
     let ws = c.row_of-2.ensures in
     record {
-      fits = r.limits.2;
       long = ws.long ∙ sym w.long;
       shoup = row_quotients r c.args.s c.row_of.result.now c.row_of-2.result.now c.requires w.same ws.same w.long;
     }
