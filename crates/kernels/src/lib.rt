@@ -3,6 +3,7 @@
 
 pub mod kernel;
 pub mod laws;
+pub mod lengths;
 pub mod plain;
 pub mod remainders;
 mod schoolbook;

@@ -6,8 +6,8 @@ ghost use Rattle.kernels.specs.Reduced.{reduced_poly, reduced_same, reduced_twic
 ghost use Rattle.kernels.specs.PlainKernelLemmas.{some};
 
 use crate::kernel::Kernel;
-use crate::{remainders, schoolbook};
-use faults::fault::{Fault, Layer};
+use crate::{lengths, remainders, schoolbook};
+use faults::fault::Fault;
 use rings::ring::Ring;
 use words::guard::Wiped;
 
@@ -18,20 +18,7 @@ fn settle(ring: &Ring, words: &mut [u32], scratch: &mut [u32]) -> Result<(), Fau
     ensures wiped { scratch.new ≡ replicate (length scratch.old) 0 }
 {
     let work = Wiped { words: scratch };
-    if words.len() != ring.degree {
-        return Err(Fault::Length {
-            list: 0,
-            part: Layer::Kernel,
-        });
-    }
-    if work.words.len() != ring.degree {
-        return Err(Fault::Length {
-            list: 1,
-            part: Layer::Kernel,
-        });
-    }
-    remainders::reduce(ring, words);
-    Ok(())
+    remainders::admit(ring, words, work.words.len())
 }
 
 // The kernel whose forms are the polynomials themselves.
@@ -56,24 +43,7 @@ impl Kernel for Plain {
     }
 
     fn fold(&self, ring: &Ring, acc: &mut [u32], left: &[u32], right: &[u32]) -> Result<(), Fault> {
-        if acc.len() != ring.degree {
-            return Err(Fault::Length {
-                list: 0,
-                part: Layer::Kernel,
-            });
-        }
-        if left.len() != ring.degree {
-            return Err(Fault::Length {
-                list: 1,
-                part: Layer::Kernel,
-            });
-        }
-        if right.len() != ring.degree {
-            return Err(Fault::Length {
-                list: 2,
-                part: Layer::Kernel,
-            });
-        }
+        lengths::check(ring, &[acc.len(), left.len(), right.len()])?;
         schoolbook::fuse(ring, acc, left, right);
         Ok(())
     }

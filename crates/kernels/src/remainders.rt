@@ -1,17 +1,20 @@
-ghost use Rattle.std.specs.Prelude.{◌≡◌, ℕ, ◌<◌, true, length};
-ghost use Rattle.kernels.specs.Polynomials.{Below, reduced};
+ghost use Rattle.std.specs.Prelude.{◌≡◌, ℕ, [], ◌∷◌, ◌<◌, ◌↔◌, IsTrue, OnOk, length};
+ghost use Rattle.kernels.specs.Lengths.{answer_to, after};
+ghost use Rattle.kernels.specs.Polynomials.{Below, InRing, reduced, poly_of};
 
+use crate::lengths;
+use faults::fault::Fault;
 use rings::ring::Ring;
 
 // Whether all words lie below the modulus: one pass, with no branch.
 fn all_below(words: &[u32], modulus: u32) -> bool
-    ensures { result ≡ true → Below modulus words.now }
+    ensures { IsTrue result ↔ Below modulus words.now }
 {
-    let mut high = false;
-    for i in 0..words.len() {
-        high = high | (words[i] >= modulus);
+    let mut low = true;
+    for word in words {
+        low &= *word < modulus;
     }
-    !high
+    low
 }
 
 // Each word becomes its remainder.
@@ -24,21 +27,24 @@ fn divide(words: &mut [u32], modulus: u32)
     }
 }
 
-// The same, with no division where all words lie below.
-fn settle(words: &mut [u32], modulus: u32)
-    requires { 0 < modulus }
-    ensures same { words.new ≡ reduced (length words.old) modulus words.old }
-    ensures below { Below modulus words.new }
+// Each word becomes its remainder by the modulus, with no division where all words lie below. A list of any length is taken.
+pub fn reduce(ring: &Ring, words: &mut [u32])
+    ensures same { words.new ≡ reduced (length words.old) ring.now.modulus words.old }
+    ensures below { Below ring.now.modulus words.new }
 {
+    let modulus = ring.modulus;
     if !all_below(words, modulus) {
         divide(words, modulus);
     }
 }
 
-// Each word becomes its remainder by the modulus. A list of any length is taken.
-pub fn reduce(ring: &Ring, words: &mut [u32])
-    ensures same { words.new ≡ reduced (length words.old) ring.now.modulus words.old }
-    ensures below { Below ring.now.modulus words.new }
+// How a call begins that has `room` words of scratch memory: both lengths are told, and the words become their remainders.
+pub fn admit(ring: &Ring, words: &mut [u32], room: usize) -> Result<(), Fault>
+    ensures answer { result ≡ answer_to ring.now (length words.old ∷ room ∷ []) }
+    ensures words { words.new ≡ after result (poly_of ring.now words.old) words.old }
+    ensures poly { OnOk result (InRing ring.now words.new) }
 {
-    settle(words, ring.modulus);
+    lengths::check(ring, &[words.len(), room])?;
+    reduce(ring, words);
+    Ok(())
 }

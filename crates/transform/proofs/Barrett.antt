@@ -1,11 +1,10 @@
 -- Barrett's remainder is exact: a guess of the quotient that is at most 2 too small, and two conditional subtractions.
-use Rattle.std.proofs.Common.{◌≡◌, ℕ, ◌+◌, ◌-◌, ◌*◌, ◌/◌, ◌%◌, ◌^◌, ◌<◌, ◌≤◌, ◌⊎◌, sym, ap, ◌∙◌, inl, inr, mul-le-mul_right, mod-eq_of_lt, mul_assoc, mul_comm, add-mul, mul-le-mul, lt_of_mul-lt-mul_right, mul-le-mul_left, mul-lt-mul_of_pos_right, mul-add, div-mul-le_self, le_of_mul-le-mul_right, arith, pow_pos, pow_mono}
-use native.Mathlib.Nat.{lt-div-mul-add}
-use native.Mathlib.Nat.{add-mul-mod_self_right}
+use Rattle.std.proofs.Common.{◌≡◌, ℕ, ◌+◌, ◌-◌, ◌*◌, ◌/◌, ◌%◌, ◌^◌, ◌<◌, ◌≤◌, ◌⊎◌, sym, ap, ◌∙◌, inl, inr, mul-le-mul_right, mod-eq_of_lt, mul_assoc, mul_comm, add-mul, lt_of_mul-lt-mul_right, mul-le-mul_left, mul-lt-mul_of_pos_right, mul-add, div-mul-le_self, le_of_mul-le-mul_right, arith, pow_pos, pow_mono}
+use native.Mathlib.Nat.{lt-div-mul-add, add-mul-mod_self_right}
+use Rattle.std.proofs.Math.Nat.{mul_right_comm}
 use Rattle.std.proofs.lemmas.Bool.{cases_lt}
-
-swap_right : (x y z : ℕ) → x * y * z ≡ x * z * y
-swap_right x y z = mul_assoc x y z ∙ (ap (λ n. x * n) (mul_comm y z) ∙ sym (mul_assoc x z y))
+use Rattle.rings.specs.declared.ring.Ring.{Ring}
+use Rattle.transform.specs.Pointwise.{Barrett}
 
 -- n = t / a, u = a b / Q and h = n u / b, each rounded down
 near : (t Q u a b n h : ℕ) → 0 < Q → 0 < b → a ≤ Q → n ≤ b → n * a ≤ t → t < n * a + a
@@ -17,7 +16,7 @@ near t Q u a b n h q0 b0 aq nb na nt ul ut hl ht =
     let p3 : n * a * b ≤ t * b = mul-le-mul_right b na in
     let e1 : n * u * Q ≡ n * (u * Q) = mul_assoc n u Q in
     let e2 : n * a * b ≡ n * (a * b) = mul_assoc n a b in
-    let e3 : h * b * Q ≡ h * Q * b = swap_right h b Q in
+    let e3 : h * b * Q ≡ h * Q * b = mul_right_comm h b Q in
     let low : h * Q * b ≤ t * b = omega arith in
     let p4 : t * b < (n * a + a) * b = mul-lt-mul_of_pos_right nt b0 in
     let e4 : (n * a + a) * b ≡ n * a * b + a * b = add-mul (n * a) a b in
@@ -56,26 +55,21 @@ guess t u k = t / 2 ^ (k - 1) * u / 2 ^ (k + 1)
 
 pub record Guessed (t Q u k : ℕ) : Type 0 where
   pub top : t / 2 ^ (k - 1) < 4294967296
-  pub prod : t / 2 ^ (k - 1) * u < 18446744073709551616
   pub small : guess t u k < 4294967296
   pub low : guess t u k * Q ≤ t
   pub high : t < guess t u k * Q + (Q + (Q + Q))
 
-product : (n u : ℕ) → n < 4294967296 → u < 4294967296 → n * u < 18446744073709551616
-product n u h k =
-    let a : n ≤ 4294967295 = omega arith in
-    let b : u ≤ 4294967295 = omega arith in
-    let c : n * u ≤ 4294967295 * 4294967295 = mul-le-mul a b in
-    omega arith
-
-pub guessed : (t Q u k : ℕ) → k < 32 → 2 ^ (k - 1) ≤ Q → Q < 2147483648 → u ≡ 2 ^ (k - 1) * 2 ^ (k + 1) / Q
-    → t < 2 ^ (k - 1) * 2 ^ (k + 1) → t < Q * Q → u < 4294967296 → Guessed t Q u k
-guessed t Q u k few bits fits e below square uw =
+guessed : (t Q u k : ℕ) → Barrett Q u k → t < Q * Q → Guessed t Q u k
+guessed t Q u k set square =
+    let bits = set.low in
+    let few = set.few in
+    let fits = set.high in
+    let below : t < 2 ^ (k - 1) * 2 ^ (k + 1) = omega (arith, set.square) in
     let a0 : 0 < 2 ^ (k - 1) = pow_pos (k - 1) in
     let b0 : 0 < 2 ^ (k + 1) = pow_pos (k + 1) in
     let q0 : 0 < Q = omega arith in
     let r : (guess t u k * Q ≤ t) × (t < guess t u k * Q + (Q + (Q + Q))) =
-    barrett_bounds t Q u (2 ^ (k - 1)) (2 ^ (k + 1)) q0 a0 b0 bits below e in
+    barrett_bounds t Q u (2 ^ (k - 1)) (2 ^ (k + 1)) q0 a0 b0 bits below set.quotient in
     let bb : 2 ^ (k + 1) ≤ 2 ^ 32 = pow_mono {i = k + 1} {j = 32} (omega arith) in
     let na : t / 2 ^ (k - 1) * 2 ^ (k - 1) ≤ t = div-mul-le_self t (2 ^ (k - 1)) in
     let cm : 2 ^ (k - 1) * 2 ^ (k + 1) ≡ 2 ^ (k + 1) * 2 ^ (k - 1) = mul_comm (2 ^ (k - 1)) (2 ^ (k + 1)) in
@@ -84,15 +78,26 @@ guessed t Q u k few bits fits e below square uw =
     let nn : t / 2 ^ (k - 1) < 4294967296 = omega arith in
     let hq : guess t u k * Q < Q * Q = omega arith in
     let hh : guess t u k < Q = lt_of_mul-lt-mul_right Q hq in
-    record { top = nn; prod = product (t / 2 ^ (k - 1)) u nn uw; small = omega arith; low = r.0; high = r.1 }
+    record { top = nn; small = omega arith; low = r.0; high = r.1 }
+
+-- the numbers of a ring
+barrett_of : (r : Ring) → Barrett r.modulus r.mu r.bits
+barrett_of r = record {
+  some = r.width.0;
+  few = r.width.1;
+  low = r.width.2;
+  high = r.limits.2;
+  square = r.width.3;
+  quotient = r.barrett;
+}
+
+pub guessed_in : (r : Ring) (t : ℕ) → t < r.modulus * r.modulus → Guessed t r.modulus r.mu r.bits
+guessed_in r t = guessed t r.modulus r.mu r.bits (barrett_of r)
 
 -- a conditional subtraction of Q
 pub record Less (x Q r : ℕ) : Type 0 where
   pub low : x < Q → r ≡ x
   pub high : Q ≤ x → r ≡ x - Q
-
-pub not_more : (x Q r : ℕ) → Less x Q r → r ≤ x
-not_more x Q r a = elim (cases_lt x Q) [ inl l ↦ omega (arith, a.low l) | inr l ↦ omega (arith, a.high l) ]
 
 -- two of them, from x below 3 Q
 twice : (x Q r s : ℕ) → x < Q + (Q + Q) → Less x Q r → Less r Q s → (s < Q) × ((i : ℕ) × (i * Q + s ≡ x))
@@ -116,12 +121,3 @@ remains t Q u k r s p a b =
     let near : t - guess t u k * Q < Q + (Q + Q) = omega (arith, p.low, p.high) in
     let w = twice (t - guess t u k * Q) Q r s near a b in
     (w.0, is_rest t Q (guess t u k) s p.low w)
-
--- a product of two words below Q
-pub product_low : (x y Q : ℕ) → x < Q → y < Q → x * y < Q * Q
-product_low x y Q h k =
-    let yq : y ≤ Q = omega arith in
-    let q0 : 0 < Q = omega arith in
-    let a : x * y ≤ x * Q = mul-le-mul_left x yq in
-    let b : x * Q < Q * Q = mul-lt-mul_of_pos_right h q0 in
-    omega arith

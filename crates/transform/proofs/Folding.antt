@@ -20,7 +20,7 @@ use Rattle.transform.specs.Reads.{reads}
 use Rattle.transform.specs.Values.{sum, values}
 use Rattle.transform.specs.Reading.{values_at, values_poly, values_reads, reads_rest}
 use Rattle.transform.specs.Return.{root_turns}
-use Rattle.transform.specs.Rows.{some}
+use Rattle.kernels.specs.PlainKernelLemmas.{some}
 
 module _ (n Q : ℕ) (c a b : List ℕ) where
   abbrev at : ℕ → ℕ

@@ -22,7 +22,7 @@ use Rattle.transform.proofs.Folding.{values_cong}
 use Rattle.transform.proofs.OddPlaces.{mirror_twice}
 use Rattle.transform.specs.Reading.{reads_poly, reads_rest, values_reads}
 use Rattle.transform.specs.Return.{root_turns}
-use Rattle.transform.specs.Rows.{some}
+use Rattle.kernels.specs.PlainKernelLemmas.{some}
 
 module _ (r : Ring) (w : List ℕ) where
   abbrev Q : ℕ

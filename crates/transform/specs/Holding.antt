@@ -1,7 +1,8 @@
 -- A stage keeps what the blocks of an array hold.
 use Rattle.std.specs.Prelude.{◌≡◌, ℕ, suc, ◌+◌, ◌-◌, ◌*◌, ◌/◌, ◌%◌, ◌^◌, ◌<◌, ◌≤◌, List, length, slice_index, slice_index_or, refl}
-use Rattle.std.proofs.Common.{sym, ◌∙◌, ap, subst, mul-add, add-mul, mul_assoc, mul_comm, mul_left_comm, mul-le-mul_right, mod-eq_of_lt, mod-lt, mul-one, one-mul, zero-mul, add-zero, arith, pow-add}
+use Rattle.std.proofs.Common.{sym, ◌∙◌, ap, subst, mul-add, add-mul, mul_assoc, mul_comm, mul_left_comm, mod-eq_of_lt, mod-lt, mul-one, one-mul, zero-mul, add-zero, arith, pow-add}
 use Rattle.std.proofs.Math.Nat.{mod-mod, add-mod-mod, add-mod_right, mul-add-mod_self_right}
+use Rattle.std.proofs.lemmas.Nat.{mul-add-lt}
 use Rattle.rings.specs.Tables.{mirror}
 use Rattle.rings.proofs.Mod.{Same, same_add, same_times, same_both}
 use Rattle.transform.specs.Stages.{Staged, plus, minus}
@@ -107,12 +108,7 @@ pub record Stage (Q ψ s g h n : ℕ) (w x y : List ℕ) : Type 0 where
 
 -- where an element stands before and after the stage
 in_range : (k b m g h : ℕ) → k < g → b < m → g * m ≡ h → k * m + b < h
-in_range k b m g h hk hb e =
-    let kk : k + 1 ≤ g = omega arith in
-    let a : (k + 1) * m ≤ g * m = mul-le-mul_right m kk in
-    let c : (k + 1) * m ≡ k * m + 1 * m = add-mul k 1 m in
-    let o : 1 * m ≡ m = one-mul m in
-    omega arith
+in_range k b m g h hk hb e = omega (arith, mul-add-lt k m b g hk hb)
 
 spot : (k b m d : ℕ) → 2 * (k * m + b) + d ≡ k * (2 * m) + (2 * b + d)
 spot k b m d = let a : k * (2 * m) ≡ 2 * (k * m) = mul_left_comm k 2 m in omega arith

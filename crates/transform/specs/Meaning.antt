@@ -12,7 +12,8 @@ use Rattle.transform.specs.Order.{order}
 use Rattle.transform.specs.Stages.{row, staged, runs}
 use Rattle.transform.specs.Values.{sum, values}
 use Rattle.transform.specs.Holding.{strided, value, power, Holds, Stage, holds_next}
-use Rattle.transform.specs.Rows.{some, reach_is, row_long, row_roots}
+use Rattle.kernels.specs.PlainKernelLemmas.{some}
+use Rattle.transform.specs.Rows.{reach_is, row_long, row_roots}
 use Rattle.transform.specs.Steps.{staged_long, staged_is, staged_below}
 use Rattle.transform.specs.Sums.{sum_is}
 

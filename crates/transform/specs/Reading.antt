@@ -23,7 +23,7 @@ use Rattle.transform.specs.Stages.{runs, unruns}
 use Rattle.transform.specs.Values.{sum, values}
 use Rattle.transform.specs.Meaning.{runs_values, runs_long, runs_below}
 use Rattle.transform.specs.Return.{twos, twos_is, back_runs, runs_back, unruns_long}
-use Rattle.transform.specs.Rows.{some}
+use Rattle.kernels.specs.PlainKernelLemmas.{some}
 use Rattle.transform.specs.Undo.{Times}
 
 -- words below Q, one of them c times the other, where c is 1

@@ -15,7 +15,8 @@ use Rattle.rings.proofs.Mirrors.{mirror_flip}
 use Rattle.kernels.specs.Polynomials.{Below, InRing}
 use Rattle.transform.specs.Stages.{row, staged, unstaged, runs, unruns}
 use Rattle.transform.specs.Meaning.{runs_long, runs_below}
-use Rattle.transform.specs.Rows.{some, half_some, reach_is, row_long, root_at}
+use Rattle.kernels.specs.PlainKernelLemmas.{some}
+use Rattle.transform.specs.Rows.{half_some, reach_is, row_long, root_at}
 use Rattle.transform.specs.Steps.{unstaged_long, unstaged_below}
 use Rattle.transform.specs.Undo.{Anti, Times, undo, redo}
 

@@ -1,10 +1,12 @@
 -- The rows of a ring's tables.
 use Rattle.std.specs.Prelude.{◌≡◌, ℕ, ◌+◌, ◌-◌, ◌*◌, ◌/◌, ◌%◌, ◌^◌, ◌<◌, ◌≤◌, List, length, drop, slice_index, slice_index_or}
-use Rattle.std.proofs.Common.{sym, ◌∙◌, ap, mod-lt, mul-le-mul_right, add-mul, one-mul, mod-eq_of_lt, add-zero, arith, pow-add, length-take, length-drop, get_or-take, get_or-drop}
+use Rattle.std.proofs.Common.{sym, ◌∙◌, ap, mod-lt, mod-eq_of_lt, add-zero, arith, pow-add, length-take, length-drop, get_or-take, get_or-drop}
 use Rattle.std.proofs.Math.Nat.{mod-mod, mul-add-div_right, mul-add-mod_self_right, div-eq_of_lt}
+use Rattle.std.proofs.lemmas.Nat.{mul-add-lt}
 use Rattle.rings.specs.declared.ring.Ring.{Ring}
 use Rattle.rings.specs.Tables.{mirror, exponent}
 use Rattle.rings.proofs.Built.{table_fits}
+use Rattle.kernels.specs.PlainKernelLemmas.{some}
 use Rattle.transform.specs.Stages.{Quotients, row}
 use Rattle.transform.specs.Holding.{Roots}
 
@@ -13,12 +15,7 @@ row_at s h w j l = get_or-take h (drop (s * h) w) j 0 l ∙ get_or-drop (s * h) 
 
 -- place j of row s lies in a table of n rows
 in_table : (n h s j : ℕ) → s < n → j < h → s * h + j < n * h
-in_table n h s j l b =
-    let k : s + 1 ≤ n = omega arith in
-    let a : (s + 1) * h ≤ n * h = mul-le-mul_right h k in
-    let c : (s + 1) * h ≡ s * h + 1 * h = add-mul s 1 h in
-    let o : 1 * h ≡ h = one-mul h in
-    omega arith
+in_table n h s j l b = omega (arith, mul-add-lt s h j n l b)
 
 exponent_at : (n h s j : ℕ) → j < h → exponent n h (s * h + j) ≡ 2 ^ (n - 1 - s) * (2 * mirror s (j % 2 ^ s) + 1)
 unfolding exponent
@@ -30,9 +27,6 @@ exponent_at n h s j l =
     ∙ ap (λ i. 2 ^ (n - 1 - s) * (2 * mirror s (i % 2 ^ s) + 1)) m
 
 module _ (r : Ring) where
-  pub some : 0 < r.modulus
-  some = omega (arith, r.limits.1)
-
   pub half_some : 0 < r.half
   half_some = omega (arith, r.range.0, r.range.2)
 
@@ -78,6 +72,6 @@ module _ (r : Ring) where
       ap (λ i. slice_index i j) e ∙ root_at s j l jb in
       let y : slice_index_or w j 0 ≡ slice_index_or r.roots (s * r.half + j) 0 = ap (λ i. slice_index i j) e ∙ row_at s r.half r.roots j jb in
       let z : slice_index_or ws j 0 ≡ slice_index_or r.quotients (s * r.half + j) 0 = ap (λ i. slice_index i j) f ∙ row_at s r.half r.quotients j jb in (
-        omega (arith, x, mod-lt (r.root ^ (2 ^ (r.log - (s + 1)) * (2 * mirror s (j % 2 ^ s) + 1))) some),
+        omega (arith, x, mod-lt (r.root ^ (2 ^ (r.log - (s + 1)) * (2 * mirror s (j % 2 ^ s) + 1))) (some r)),
         z ∙ (r.shoup (s * r.half + j) (in_table r.log r.half s j l jb) ∙ ap (λ i. i * 4294967296 / r.modulus) (sym y)),
       )

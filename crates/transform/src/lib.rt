@@ -4,5 +4,6 @@
 mod field;
 pub mod laws;
 mod pointwise;
+mod roots;
 mod stages;
 pub mod transform;

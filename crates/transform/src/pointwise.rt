@@ -1,7 +1,7 @@
-ghost use Rattle.std.specs.Prelude.{◌≡◌, ℕ, ◌+◌, ◌-◌, ◌*◌, ◌/◌, ◌%◌, ◌^◌, ◌<◌, ◌≤◌, true, length};
+ghost use Rattle.std.specs.Prelude.{◌≡◌, ℕ, ◌+◌, ◌-◌, ◌*◌, ◌/◌, ◌%◌, ◌^◌, ◌<◌, true, length};
 ghost use Rattle.kernels.specs.Polynomials.{Below};
 ghost use Rattle.kernels.specs.Reading.{folded};
-ghost use Rattle.transform.specs.Pointwise.{Barrett, fused_word, fused_at, scaled};
+ghost use Rattle.transform.specs.Pointwise.{fused_word, fused_at, scaled};
 ghost use Rattle.transform.specs.Reads.{reads};
 ghost use Rattle.transform.specs.Values.{values};
 
@@ -12,21 +12,20 @@ use rings::ring::Ring;
 pub fn scale(ring: &Ring, words: &mut [u32])
     ensures { words.new ≡ scaled ring.now words.old }
 {
-    for i in 0..words.len() {
-        words[i] = field::mul_shoup(words[i], ring.inverse, ring.sharp, ring.modulus);
+    for word in words.iter_mut() {
+        *word = field::mul_shoup(ring, *word, ring.inverse, ring.sharp);
     }
 }
 
 // c + a b, for words below the modulus.
-fn fuse_word(c: u32, a: u32, b: u32, modulus: u32, mu: u32, bits: u32) -> u32
-    requires sum { c < modulus }
-    requires left { a < modulus }
-    requires right { b < modulus }
-    requires set { Barrett modulus mu bits }
-    ensures { result ≡ fused_word modulus c a b }
+fn fuse_word(ring: &Ring, c: u32, a: u32, b: u32) -> u32
+    requires sum { c < ring.now.modulus }
+    requires left { a < ring.now.modulus }
+    requires right { b < ring.now.modulus }
+    ensures { result ≡ fused_word ring.now.modulus c a b }
 {
-    let product = field::barrett(a as u64 * b as u64, modulus, mu, bits);
-    field::reduce_once(c + product, modulus)
+    let product = field::barrett(ring, a as u64 * b as u64);
+    field::reduce_once(ring, c + product)
 }
 
 // c + a b at each place, for words below the modulus.
@@ -38,11 +37,8 @@ fn fuse_low(ring: &Ring, acc: &mut [u32], left: &[u32], right: &[u32])
     requires third { Below ring.now.modulus right.now }
     ensures { acc.new ≡ fused_at ring.now acc.old left.now right.now }
 {
-    let modulus = ring.modulus;
-    let mu = ring.mu;
-    let bits = ring.bits;
-    for i in 0..acc.len() {
-        acc[i] = fuse_word(acc[i], left[i], right[i], modulus, mu, bits);
+    for (i, word) in acc.iter_mut().enumerate() {
+        *word = fuse_word(ring, *word, left[i], right[i]);
     }
 }
 
@@ -53,8 +49,8 @@ fn fuse_any(ring: &Ring, acc: &mut [u32], left: &[u32], right: &[u32])
     ensures { acc.new ≡ fused_at ring.now acc.old left.now right.now }
 {
     let modulus = ring.modulus as u64;
-    for i in 0..acc.len() {
-        acc[i] = ((acc[i] as u64 + left[i] as u64 * right[i] as u64 % modulus) % modulus) as u32;
+    for (i, word) in acc.iter_mut().enumerate() {
+        *word = ((*word as u64 + left[i] as u64 * right[i] as u64 % modulus) % modulus) as u32;
     }
 }
 
@@ -67,8 +63,8 @@ fn all_reduced(modulus: u32, acc: &[u32], left: &[u32], right: &[u32]) -> bool
     ensures third { result ≡ true → Below modulus right.now }
 {
     let mut high = false;
-    for i in 0..acc.len() {
-        high = high | (acc[i] >= modulus) | (left[i] >= modulus) | (right[i] >= modulus);
+    for (i, word) in acc.iter().enumerate() {
+        high = high | (*word >= modulus) | (left[i] >= modulus) | (right[i] >= modulus);
     }
     !high
 }

@@ -3,9 +3,9 @@ ghost use Rattle.transform.specs.Values.{values};
 ghost use Rattle.transform.specs.Reading.{one_form};
 
 use crate::{pointwise, stages};
-use faults::fault::{Fault, Layer};
+use faults::fault::Fault;
 use kernels::kernel::Kernel;
-use kernels::remainders;
+use kernels::{lengths, remainders};
 use rings::ring::Ring;
 use words::guard::Wiped;
 
@@ -22,61 +22,20 @@ impl Kernel for Transform {
 
     fn turn(&self, ring: &Ring, words: &mut [u32], scratch: &mut [u32]) -> Result<(), Fault> {
         let work = Wiped { words: scratch };
-        if words.len() != ring.degree {
-            return Err(Fault::Length {
-                list: 0,
-                part: Layer::Kernel,
-            });
-        }
-        if work.words.len() != ring.degree {
-            return Err(Fault::Length {
-                list: 1,
-                part: Layer::Kernel,
-            });
-        }
-        remainders::reduce(ring, words);
+        remainders::admit(ring, words, work.words.len())?;
         stages::evaluate(ring, words, work.words);
         Ok(())
     }
 
     fn fold(&self, ring: &Ring, acc: &mut [u32], left: &[u32], right: &[u32]) -> Result<(), Fault> {
-        if acc.len() != ring.degree {
-            return Err(Fault::Length {
-                list: 0,
-                part: Layer::Kernel,
-            });
-        }
-        if left.len() != ring.degree {
-            return Err(Fault::Length {
-                list: 1,
-                part: Layer::Kernel,
-            });
-        }
-        if right.len() != ring.degree {
-            return Err(Fault::Length {
-                list: 2,
-                part: Layer::Kernel,
-            });
-        }
+        lengths::check(ring, &[acc.len(), left.len(), right.len()])?;
         pointwise::fold_forms(ring, acc, left, right);
         Ok(())
     }
 
     fn back(&self, ring: &Ring, words: &mut [u32], scratch: &mut [u32]) -> Result<(), Fault> {
         let work = Wiped { words: scratch };
-        if words.len() != ring.degree {
-            return Err(Fault::Length {
-                list: 0,
-                part: Layer::Kernel,
-            });
-        }
-        if work.words.len() != ring.degree {
-            return Err(Fault::Length {
-                list: 1,
-                part: Layer::Kernel,
-            });
-        }
-        remainders::reduce(ring, words);
+        remainders::admit(ring, words, work.words.len())?;
         stages::descend(ring, words, work.words);
         pointwise::scale(ring, words);
         Ok(())

@@ -6,5 +6,5 @@ use Rattle.kernels.proofs.schoolbook.coefficient.Given as goal
 
 abbrev pub invariant-loop-i : goal.invariant-loop-i
 invariant-loop-i l =
-    (l.sum < l.modulus)
-    × Cong l.modulus (pos l.sum) (pos l.start +ℤ sum_z l.i (λ j. coeffs l.left j *ℤ wrapped (length l.right) j (coeffs l.right) l.k))
+    (l.sum < l.ring.modulus)
+    × Cong l.ring.modulus (pos l.sum) (pos l.start +ℤ sum_z l.i (λ j. coeffs l.left j *ℤ wrapped (length l.right) j (coeffs l.right) l.k))

@@ -2,23 +2,5 @@ use Rattle.std.proofs.Common.{arith}
 use Rattle.transform.proofs.Folding.{pointwise_from}
 use Rattle.transform.proofs.pointwise.fuse_low.Goals as goal
 
-pub fuse_word-requires : goal.fuse_word-requires
-fuse_word-requires c =
-    let r = c.args.ring.now in
-    let i = c.loop-i.i in
-    record {
-      sum = omega (arith, c.requires.first i (omega arith), c.loop-i.invariant.1 i (omega arith));
-      left = c.requires.second i (omega (arith, c.requires.one));
-      right = c.requires.third i (omega (arith, c.requires.other));
-      set = record {
-        some = r.width.0;
-        few = r.width.1;
-        low = r.width.2;
-        high = r.limits.2;
-        square = r.width.3;
-        quotient = r.barrett;
-      };
-    }
-
 pub returns : goal.returns
 returns c = pointwise_from _ _ _ _ _ _ (omega arith) (λ k h. c.loop-i.invariant.0 k (omega arith))

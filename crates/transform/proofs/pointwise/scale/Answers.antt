@@ -4,5 +4,5 @@ use Rattle.transform.proofs.pointwise.scale.Goals as goal
 
 pub returns : goal.returns
 returns c =
-    scaled_from c.args.ring.now c.args.words.now c.loop-i.words (omega arith)
-    (λ k h. c.loop-i.invariant.0 k (omega arith))
+    scaled_from c.args.ring.now c.args.words.now c.loop-word.words (omega arith)
+    (λ k h. c.loop-word.invariant.0 k (omega arith))
