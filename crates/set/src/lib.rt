@@ -7,4 +7,5 @@ pub mod checked;
 mod close;
 pub mod noises;
 pub mod numbers;
+pub mod steps;
 pub mod within;

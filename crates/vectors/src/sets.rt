@@ -4,6 +4,7 @@ use crate::answer;
 use crate::numbers::word;
 use set::checked::Set;
 use set::numbers::Numbers;
+use set::steps::Steps;
 use set::{check, noises};
 use std::alloc::{AllocError, Global};
 
@@ -47,12 +48,12 @@ pub fn set(heap: Global, all: &Vec<i64>) -> Result<String, AllocError> {
     if all.len() != 17 {
         return answer::unknown(heap);
     }
-    let checked = match word(all, 0) {
-        Some(1) => check::single(numbers),
-        Some(2) => check::paired(numbers),
+    let steps = match word(all, 0) {
+        Some(1) => Steps::Single,
+        Some(2) => Steps::Paired,
         _ => return answer::unknown(heap),
     };
-    match checked {
+    match check::set_for(numbers, steps) {
         Err(fault) => answer::refused(heap, fault),
         Ok(set) => told(heap, &set),
     }
