@@ -3,3 +3,4 @@ pub mod Highs
 pub mod Rows
 pub mod Refusals
 pub mod Loaded
+pub mod Shown

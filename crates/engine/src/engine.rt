@@ -53,9 +53,7 @@ impl<K: Drop, S: Sweep + Drop> Engine<K, S> {
         ensures kept { IfOk result (λ e. (e.kernel ≡ kernel) × (e.sweep ≡ sweep)) }
         ensures least { (stated : ℕ) → StatedFor S.Sweep.noise numbers stated → Least (WrongSet numbers stated) (refusal result) }
     {
-        match check_for::<S>(numbers) {
-            Ok(set) => Ok(Engine { kernel, sweep, set }),
-            Err(fault) => Err(fault),
-        }
+        let set = check_for::<S>(numbers)?;
+        Ok(Engine { kernel, sweep, set })
     }
 }

@@ -1,4 +1,6 @@
 ghost use Rattle.std.specs.Prelude.{◌≡◌, ◌*◌, ◌^◌, ◌≤◌};
+ghost use Rattle.faults.specs.Least.{refusal, unless};
+ghost use Rattle.faults.specs.declared.fault.Layer.TheVariants.{Image};
 ghost use Rattle.engine.specs.Load.{start_words, selector_words, row_words, parts_broken, load_lists};
 
 use faults::fault::{Fault, Layer};
@@ -27,58 +29,60 @@ fn row_words(set: &Set) -> usize
     set.degree() * (set.places() * (set.dimension() + 1))
 }
 
-// The first part of an image that has not its length.
-pub fn part_fault(image: &[u8], set: &Set, count: usize) -> Option<Fault>
-    requires { count ≤ 2 ^ 14 }
-    ensures { result ≡ parts_broken set.now.within.numbers count image.now }
+// A part refused by its pair, unless its length is right.
+fn part(right: bool, pair: u32) -> Result<(), Fault>
+    ensures { refusal result ≡ unless right (Fault.PartLength pair) }
 {
-    if length_of(image, 1) as usize != 4 * start_words(set) {
-        return Some(Fault::PartLength { pair: 1 });
+    if right {
+        Ok(())
+    } else {
+        Err(Fault::PartLength { pair })
     }
-    if length_of(image, 2) as usize != 4 * selector_words(set, count) {
-        return Some(Fault::PartLength { pair: 2 });
-    }
-    if length_of(image, 3) as usize != 4 * row_words(set) {
-        return Some(Fault::PartLength { pair: 3 });
-    }
-    None
 }
 
-// The first list of a load that has not its length.
-pub fn list_fault(
-    set: &Set,
-    count: usize,
-    start: usize,
-    selectors: usize,
-    rows: usize,
-    scratch: usize,
-) -> Option<Fault>
+// The parts of an image have their lengths.
+pub fn check_parts(image: &[u8], set: &Set, count: usize) -> Result<(), Fault>
     requires { count ≤ 2 ^ 14 }
-    ensures { result ≡ load_lists set.now.within.numbers count start selectors rows scratch }
+    ensures { refusal result ≡ parts_broken set.now.within.numbers count image.now }
 {
-    if start != start_words(set) {
-        return Some(Fault::Length {
-            list: 1,
+    part(length_of(image, 1) as usize == 4 * start_words(set), 1)?;
+    part(
+        length_of(image, 2) as usize == 4 * selector_words(set, count),
+        2,
+    )?;
+    part(length_of(image, 3) as usize == 4 * row_words(set), 3)
+}
+
+// The lengths of the lists that a load is lent.
+#[derive(Clone, Copy)]
+pub struct Lengths {
+    pub start: usize,
+    pub selectors: usize,
+    pub rows: usize,
+    pub scratch: usize,
+}
+
+// A list refused by its number, unless its length is right.
+fn list(right: bool, list: u32) -> Result<(), Fault>
+    ensures { refusal result ≡ unless right (Fault.Length list Image) }
+{
+    if right {
+        Ok(())
+    } else {
+        Err(Fault::Length {
+            list,
             part: Layer::Image,
-        });
+        })
     }
-    if selectors != selector_words(set, count) {
-        return Some(Fault::Length {
-            list: 2,
-            part: Layer::Image,
-        });
-    }
-    if rows != row_words(set) {
-        return Some(Fault::Length {
-            list: 3,
-            part: Layer::Image,
-        });
-    }
-    if scratch != set.degree() {
-        return Some(Fault::Length {
-            list: 4,
-            part: Layer::Image,
-        });
-    }
-    None
+}
+
+// The lists of a load have their lengths.
+pub fn check_lists(set: &Set, count: usize, lengths: &Lengths) -> Result<(), Fault>
+    requires { count ≤ 2 ^ 14 }
+    ensures { refusal result ≡ load_lists set.now.within.numbers count lengths.now.start lengths.now.selectors lengths.now.rows lengths.now.scratch }
+{
+    list(lengths.start == start_words(set), 1)?;
+    list(lengths.selectors == selector_words(set, count), 2)?;
+    list(lengths.rows == row_words(set), 3)?;
+    list(lengths.scratch == set.degree(), 4)
 }

@@ -1,4 +1,5 @@
 ghost use Rattle.std.specs.Prelude.{◌≡◌, ◌^◌, ◌<◌, ◌≤◌, length, take, drop};
+ghost use Rattle.faults.specs.Least.{refusal};
 ghost use Rattle.image.specs.Directory.{part_at};
 ghost use Rattle.engine.specs.Load.{word_broken};
 
@@ -11,13 +12,8 @@ fn cut(bytes: &[u8], from: usize, long: usize) -> &[u8]
     ensures part { result.now ≡ take long (drop from bytes.now) }
     ensures short { length result.now ≤ long }
 {
-    if from >= bytes.len() {
-        return &bytes[0..0];
-    }
-    if long >= bytes.len() - from {
-        return &bytes[from..bytes.len()];
-    }
-    &bytes[from..from + long]
+    let rest = bytes.get(from..).unwrap_or(&[]);
+    rest.get(..long).unwrap_or(rest)
 }
 
 // The bytes of a part, as far as they lie within the image.
@@ -32,14 +28,14 @@ pub fn part_of(image: &[u8], pair: u32) -> &[u8]
     )
 }
 
-// The first word of a part that is not below a modulus.
-pub fn high_word(image: &[u8], pair: u32, modulus: u32) -> Option<Fault>
-    ensures { result ≡ word_broken image.now pair modulus }
+// The words of a part lie below a modulus.
+pub fn check_below(image: &[u8], pair: u32, modulus: u32) -> Result<(), Fault>
+    ensures { refusal result ≡ word_broken image.now pair modulus }
 {
     match first_high(part_of(image, pair), modulus) {
-        Some(at) => Some(Fault::ImageWord {
+        None => Ok(()),
+        Some(at) => Err(Fault::ImageWord {
             offset: offset_of(image, pair) as u64 + at as u64,
         }),
-        None => None,
     }
 }

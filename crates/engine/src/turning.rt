@@ -30,6 +30,7 @@ pub fn turn_rows<K: Kernel>(
     requires scratch { length scratch.old ≡ ring.now.degree }
     ensures { words.new ≡ form_rows (λ p. K.Kernel.form ring.now (poly_of ring.now p)) ring.now.degree count words.old }
 {
+    // Counted by hand: over chunks_exact_mut `returns` stayed open, for nothing is known of a chunk's words once it is given back.
     for i in 0..count {
         turn_row(kernel, ring, i, words, scratch);
     }

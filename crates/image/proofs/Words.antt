@@ -1,8 +1,10 @@
 -- The words and the bytes of a part, one after the other.
-use Rattle.std.proofs.Common.{◌≡◌, ℕ, ◌+◌, ◌*◌, ◌/◌, ◌<◌, ◌≤◌, true, false, List, ◌∷◌, length, get_or, drop, Some, None, ap, ◌∙◌, arith}
-use Rattle.std.proofs.lemmas.List.{drop_more, drop_all, get_or_past}
+use Rattle.std.proofs.Common.{◌≡◌, ℕ, zero, suc, ◌+◌, ◌*◌, ◌/◌, min, ◌^◌, ◌<◌, ◌≤◌, Bool, ◌&&◌, cond, eqb, leb, ltb, List, [], ◌∷◌, map, length, get_or, Some, None, Option, option_map, sym, refl, ap, ◌∙◌, inl, inr, arith}
+use Rattle.std.specs.List.{range_with_len, find, list_all}
+use Rattle.std.proofs.lemmas.List.{get_or_past}
 use Rattle.std.proofs.lemmas.List.FromFn.{length-map-range_with_len, get_or-map-range_with_len, fill_by_all}
-use Rattle.std.proofs.lemmas.Bool.{lt-ltb, le-ltb, eq-eqb, ne_eqb}
+use Rattle.std.proofs.lemmas.Bool.{cases_lt}
+use Rattle.std.proofs.lemmas.Bool.Decides.{nat_tests}
 use Rattle.image.specs.Bytes.{word_at, first_words, words_of, first_high, all_zero}
 
 pub words_long : (bytes : List ℕ) → length (words_of bytes) ≡ length bytes / 4
@@ -27,30 +29,28 @@ word_past bytes at h =
     let d = get_or_past bytes (at + 3) 0 (omega arith) in
     omega arith
 
--- from word i on
-cut : (bytes : List ℕ) (i : ℕ) → i < length bytes / 4 → drop i (words_of bytes) ≡ word_at bytes (4 * i) ∷ drop (i + 1) (words_of bytes)
-cut bytes i h =
-    drop_more (words_of bytes) i 0 (omega (arith, words_long bytes))
-    ∙ ap (λ (w : ℕ). w ∷ drop (i + 1) (words_of bytes)) (words_at bytes i h)
+-- word k, where 4k is capped at the largest place
+pub word_capped : (bytes : List ℕ) (k at : ℕ) → at ≡ min (k * 4) 0xffff_ffff_ffff_ffff → length bytes < 2 ^ 64 → word_at bytes at ≡ word_at bytes (4 * k)
+word_capped bytes k at e h = elim (cases_lt 0xffff_ffff_ffff_ffff (4 * k)) [
+  | inl l ↦ sym (word_past bytes at (omega arith)) ∙ word_past bytes (4 * k) (omega arith)
+  | inr g ↦ ap (word_at bytes) {x = at} {y = 4 * k} (omega arith)
+]
 
-module _ (m : ℕ) (bytes : List ℕ) (i : ℕ) where
-  pub high_here : i < length bytes / 4 → m ≤ word_at bytes (4 * i) → first_high m i (drop i (words_of bytes)) ≡ Some i
-  high_here h l = ap (first_high m i) (cut bytes i h) ∙ rw (le-ltb (word_at bytes (4 * i)) m l)
+-- the first word that is not below m, as a search over the places
+turned : (m x : ℕ) (o p : Option ℕ) → cond (leb m x) o p ≡ cond (ltb x m) p o
+turned m x o p = grind (arith, nat_tests)
 
-  pub high_later : i < length bytes / 4 → word_at bytes (4 * i) < m
-      → first_high m i (drop i (words_of bytes)) ≡ first_high m (i + 1) (drop (i + 1) (words_of bytes))
-  high_later h l = ap (first_high m i) (cut bytes i h) ∙ rw (lt-ltb (word_at bytes (4 * i)) m l)
+pub found_first : (m : ℕ) (f : ℕ → ℕ) (a n : ℕ) → find (λ k. leb m (f k)) (range_with_len a n) ≡ first_high m a (map f (range_with_len a n))
+found_first m f a zero = refl
+found_first m f a (suc n) =
+    ap (λ (o : Option ℕ). cond (leb m (f a)) (Some a) o) (found_first m f (a + 1) n)
+    ∙ turned m (f a) (Some a) (first_high m (a + 1) (map f (range_with_len (a + 1) n)))
 
-  pub high_none : length bytes / 4 ≤ i → first_high m i (drop i (words_of bytes)) ≡ None
-  high_none h = ap (first_high m i) (drop_all i (words_of bytes) (omega (arith, words_long bytes)))
+pub as_found : (o : Option ℕ) → option_map (λ x. x) o ≡ o
+as_found None = refl
+as_found (Some k) = refl
 
--- bytes from i on
-module _ (bytes : List ℕ) (i : ℕ) where
-  pub spoiled : i < length bytes → (get_or bytes i 0 ≡ 0 → ⊥) → all_zero (drop i bytes) ≡ false
-  spoiled h n = ap all_zero (drop_more bytes i 0 h) ∙ rw (ne_eqb (get_or bytes i 0) 0 n)
-
-  pub zero_on : i < length bytes → get_or bytes i 0 ≡ 0 → all_zero (drop i bytes) ≡ all_zero (drop (i + 1) bytes)
-  zero_on h e = ap all_zero (drop_more bytes i 0 h) ∙ rw (eq-eqb (get_or bytes i 0) 0 e)
-
-  pub zero_end : length bytes ≤ i → all_zero (drop i bytes) ≡ true
-  zero_end h = ap all_zero (drop_all i bytes h)
+-- no byte but 0, as a test of each byte
+pub zero_all : (bytes : List ℕ) → list_all (λ b. eqb b 0) bytes ≡ all_zero bytes
+zero_all [] = refl
+zero_all (b ∷ bs) = ap (λ (r : Bool). eqb b 0 && r) (zero_all bs)

@@ -7,30 +7,25 @@ use set::numbers::Numbers;
 fn byte_at(bytes: &[u8], at: usize, k: usize) -> u8
     ensures { result ≡ slice_index bytes.now (at + k) }
 {
-    if at < bytes.len() && k < bytes.len() - at {
-        bytes[at + k]
-    } else {
-        0
-    }
+    bytes.get(at.saturating_add(k)).copied().unwrap_or(0)
 }
 
 // The word of four bytes, highest first.
-fn big_endian(a: u8, b: u8, c: u8, d: u8) -> u32
-    ensures { result ≡ big_endian a b c d }
+fn big_endian(bytes: [u8; 4]) -> u32
+    ensures { result ≡ big_endian (slice_index bytes 0) (slice_index bytes 1) (slice_index bytes 2) (slice_index bytes 3) }
 {
-    (a as u32 * 256 + b as u32) * 65536 + c as u32 * 256 + d as u32
+    u32::from_be_bytes(bytes)
 }
 
 // The word of the four bytes from `at` on. Bytes past the end count as 0.
 pub fn word_at(bytes: &[u8], at: usize) -> u32
     ensures { result ≡ word_at bytes.now at }
 {
-    big_endian(
-        byte_at(bytes, at, 0),
-        byte_at(bytes, at, 1),
-        byte_at(bytes, at, 2),
-        byte_at(bytes, at, 3),
-    )
+    let a = byte_at(bytes, at, 0);
+    let b = byte_at(bytes, at, 1);
+    let c = byte_at(bytes, at, 2);
+    let d = byte_at(bytes, at, 3);
+    big_endian([a, b, c, d])
 }
 
 // The sixteen numbers of a set part.
@@ -61,19 +56,15 @@ pub fn numbers(part: &[u8]) -> Numbers
 fn nth_word(part: &[u8], k: usize) -> u32
     ensures { result ≡ word_at part.now (4 * k) }
 {
-    if k > part.len() / 4 {
-        0
-    } else {
-        word_at(part, 4 * k)
-    }
+    word_at(part, k.saturating_mul(4))
 }
 
 // The words of a part, as many as there is room for.
 pub fn words_into(part: &[u8], out: &mut [u32])
     ensures { out.new ≡ first_words (length out.old) part.now }
 {
-    for i in 0..out.len() {
-        out[i] = nth_word(part, i);
+    for (k, word) in out.iter_mut().enumerate() {
+        *word = nth_word(part, k);
     }
 }
 
@@ -82,32 +73,19 @@ fn first_word(part: &[u8], modulus: u32) -> Option<usize>
     ensures index { result ≡ first_high modulus 0 (words_of part.now) }
     ensures inside { IfSome result (λ i. 4 * i < length part.now) }
 {
-    for i in 0..part.len() / 4 {
-        if nth_word(part, i) >= modulus {
-            return Some(i);
-        }
-    }
-    None
+    (0..part.len() / 4).find(|k| nth_word(part, *k) >= modulus)
 }
 
 // Where it lies, in bytes from the part's start.
 pub fn first_high(part: &[u8], modulus: u32) -> Option<usize>
     ensures { result ≡ four_times (first_high modulus 0 (words_of part.now)) }
 {
-    match first_word(part, modulus) {
-        Some(i) => Some(4 * i),
-        None => None,
-    }
+    first_word(part, modulus).map(|i| 4 * i)
 }
 
 // Whether all bytes are 0.
 pub(crate) fn all_zero(bytes: &[u8]) -> bool
     ensures { result ≡ all_zero bytes.now }
 {
-    for i in 0..bytes.len() {
-        if bytes[i] != 0 {
-            return false;
-        }
-    }
-    true
+    bytes.iter().all(|b| *b == 0)
 }

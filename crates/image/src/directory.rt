@@ -1,6 +1,6 @@
-ghost use Rattle.std.specs.Prelude.{◌≡◌, None};
-ghost use Rattle.faults.specs.Least.{Least};
-ghost use Rattle.image.specs.Directory.{offset_of, length_of, end_of, header_fits, span_fits, image_refused, PartsInside, WrongImage};
+ghost use Rattle.std.specs.Prelude.{◌≡◌};
+ghost use Rattle.faults.specs.Least.{refusal, unless};
+ghost use Rattle.image.specs.Directory.{offset_of, length_of, end_of, header_fits, span_fits, image_refused};
 
 use crate::bytes::{all_zero, word_at};
 use faults::fault::Fault;
@@ -30,7 +30,7 @@ fn end_of(image: &[u8], pair: u32) -> usize
 fn header_fits(image: &[u8]) -> bool
     ensures { result ≡ header_fits image.now }
 {
-    image.len() >= 34 && image[0] as u32 * 256 + image[1] as u32 == 4
+    image.len() >= 34 && u16::from_be_bytes([image[0], image[1]]) == 4
 }
 
 // Whether a part lies from `from` on and within the image, after a gap of zeros.
@@ -38,42 +38,30 @@ fn span_fits(image: &[u8], from: usize, pair: u32) -> bool
     ensures { result ≡ span_fits image.now from pair }
 {
     let offset = offset_of(image, pair) as usize;
-    if offset < from {
-        return false;
-    }
-    if end_of(image, pair) > image.len() {
-        return false;
-    }
-    all_zero(&image[from..offset])
+    from <= offset && end_of(image, pair) <= image.len() && all_zero(&image[from..offset])
 }
 
-// The first pair that breaks a rule.
-fn first_fault(image: &[u8]) -> Option<Fault>
-    ensures { result ≡ image_refused image.now }
+// A pair refused by its place, unless its test passes.
+fn pair(passes: bool, pair: u32) -> Result<(), Fault>
+    ensures { refusal result ≡ unless passes (Fault.Directory pair) }
 {
-    if !header_fits(image) {
-        return Some(Fault::Directory { pair: 0 });
+    if passes {
+        Ok(())
+    } else {
+        Err(Fault::Directory { pair })
     }
-    if !(span_fits(image, 34, 0) && length_of(image, 0) == 64) {
-        return Some(Fault::Directory { pair: 0 });
-    }
-    if !span_fits(image, end_of(image, 0), 1) {
-        return Some(Fault::Directory { pair: 1 });
-    }
-    if !span_fits(image, end_of(image, 1), 2) {
-        return Some(Fault::Directory { pair: 2 });
-    }
-    if !(span_fits(image, end_of(image, 2), 3) && end_of(image, 3) == image.len()) {
-        return Some(Fault::Directory { pair: 3 });
-    }
-    None
 }
 
-// Why an image is refused, if it is. The parts of any other lie within it.
-pub(crate) fn refused(image: &[u8]) -> Option<Fault>
-    ensures answer { result ≡ image_refused image.now }
-    ensures inside { result ≡ None → PartsInside image.now }
-    ensures least { Least (WrongImage image.now) (image_refused image.now) }
+// The pairs in turn.
+pub(crate) fn check_pairs(image: &[u8]) -> Result<(), Fault>
+    ensures { refusal result ≡ image_refused image.now }
 {
-    first_fault(image)
+    pair(header_fits(image), 0)?;
+    pair(span_fits(image, 34, 0) && length_of(image, 0) == 64, 0)?;
+    pair(span_fits(image, end_of(image, 0), 1), 1)?;
+    pair(span_fits(image, end_of(image, 1), 2), 2)?;
+    pair(
+        span_fits(image, end_of(image, 2), 3) && end_of(image, 3) == image.len(),
+        3,
+    )
 }

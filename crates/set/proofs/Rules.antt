@@ -215,7 +215,7 @@ module _ (n : Numbers) (stated : ℕ) (fit : is_some (limits_broken n) ≡ false
       past_switch a b ∙ or_next (unless (eqb (n.root ^ n.degree % n.modulus) (n.modulus - 1)) Root) (closing_broken n stated) (sym (root_only n (limits_of n fit)) ∙ e)
 
 -- limits come before the other rules
-limits_row : (n : Numbers) (g : Fault) → WrongLimits n g → row_of g ≡ 2
+pub limits_row : (n : Numbers) (g : Fault) → WrongLimits n g → row_of g ≡ 2
 limits_row n g w =
     elim w [
       | inl a ↦ ap row_of a.0

@@ -1,6 +1,8 @@
 -- The noise of one gate, in the worst case: what a set has to close.
 use Rattle.std.specs.Prelude.{ℕ, ◌+◌, ◌*◌, ◌/◌}
 use Rattle.set.specs.declared.numbers.Numbers.{Numbers}
+use Rattle.set.specs.declared.steps.Steps.{Steps}
+use Rattle.set.specs.declared.steps.Steps.TheVariants.{Single, Paired}
 
 -- G: half of the dropped part, rounded down
 abbrev pub drop_of : Numbers → ℕ
@@ -20,3 +22,8 @@ single_noise n = n.dimension * (n.degree * n.digits * n.base * n.noise + 2 * dro
 
 abbrev pub paired_noise : Numbers → ℕ
 paired_noise n = n.dimension / 2 * (3 * (n.degree * n.digits * n.base * n.noise) + 2 * drop_of n * n.weight)
+
+-- the stated noise of a sweep, by its steps
+abbrev pub stated_noise : Steps → Numbers → ℕ
+stated_noise Single n = single_noise n
+stated_noise Paired n = paired_noise n

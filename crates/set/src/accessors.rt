@@ -79,17 +79,13 @@ impl Set {
     pub fn wide(&self) -> Modulus
         ensures { result.value ≡ self.now.within.numbers.modulus }
     {
-        Modulus {
-            value: self.within.numbers.modulus,
-        }
+        self.gadget.modulus
     }
 
     pub fn middle(&self) -> Modulus
         ensures { result.value ≡ self.now.within.numbers.switch }
     {
-        Modulus {
-            value: self.within.numbers.switch,
-        }
+        self.switcher.modulus
     }
 
     pub fn least(&self) -> Modulus

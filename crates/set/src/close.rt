@@ -1,4 +1,5 @@
 ghost use Rattle.std.specs.Prelude.{◌≡◌, ℕ, ◌+◌, ◌*◌, ◌^◌, ◌<◌, ◌≤◌};
+ghost use Rattle.faults.specs.Least.{refusal, unless};
 ghost use Rattle.set.specs.Noise.{swept_noise, switch_noise};
 ghost use Rattle.set.specs.Rules.{gate_noise, closing_broken};
 
@@ -30,20 +31,25 @@ fn room(within: &Within) -> u128
     2 * n.modulus as u128 * n.switch as u128 * n.bound as u128
 }
 
-// The first closing condition that fails.
-pub fn closing_fault(within: &Within, stated: u64) -> Option<Fault>
-    ensures { result ≡ closing_broken within.now.numbers stated }
+// A closing condition refused by its number, unless it holds.
+fn closing(holds: bool, condition: u32) -> Result<(), Fault>
+    ensures { refusal result ≡ unless holds (Fault.Closing condition) }
 {
+    if holds {
+        Ok(())
+    } else {
+        Err(Fault::Closing { condition })
+    }
+}
+
+// The three closing conditions, in turn.
+pub fn check_closing(within: &Within, stated: u64) -> Result<(), Fault>
+    ensures { refusal result ≡ closing_broken within.now.numbers stated }
+{
+    let n = within.numbers;
     let swept = noises::swept(within, stated);
     let switched = noises::switched(within);
-    if 8 * (swept + 2) > within.numbers.modulus as u128 {
-        return Some(Fault::Closing { condition: 0 });
-    }
-    if 1 + within.numbers.weight as u64 + 2 * switched > within.numbers.switch as u64 {
-        return Some(Fault::Closing { condition: 1 });
-    }
-    if gate_noise(within, swept, switched) > room(within) {
-        return Some(Fault::Closing { condition: 2 });
-    }
-    None
+    closing(8 * (swept + 2) <= n.modulus as u128, 0)?;
+    closing(1 + n.weight as u64 + 2 * switched <= n.switch as u64, 1)?;
+    closing(gate_noise(within, swept, switched) <= room(within), 2)
 }

@@ -8,4 +8,5 @@ mod close;
 pub mod noises;
 pub mod numbers;
 pub mod sizes;
+pub mod steps;
 pub mod within;

@@ -1,11 +1,11 @@
 ghost use Rattle.std.specs.Prelude.{◌≡◌, ℕ, ◌+◌, ◌*◌, ◌/◌, ◌^◌, ◌<◌, ◌≤◌};
-ghost use Rattle.set.specs.Noise.{swept_noise, switch_noise, single_noise, paired_noise};
+ghost use Rattle.set.specs.Noise.{swept_noise, switch_noise};
 
 use crate::numbers::Numbers;
 use crate::within::Within;
 
 // The product of a length, digits, a base or its half, and a noise.
-fn product(length: u32, digits: u32, base: u32, noise: u32) -> u64
+pub(crate) fn product(length: u32, digits: u32, base: u32, noise: u32) -> u64
     requires length { length ≤ 1024 }
     requires digits { digits ≤ 31 }
     requires base { base ≤ 65536 }
@@ -14,28 +14,6 @@ fn product(length: u32, digits: u32, base: u32, noise: u32) -> u64
     ensures small { result ≤ 31 * 2 ^ 36 }
 {
     length as u64 * digits as u64 * base as u64 * noise as u64
-}
-
-// The stated noise of the single sweep.
-pub fn single(within: &Within) -> u64
-    ensures value { result ≡ single_noise within.now.numbers }
-    ensures small { result ≤ 2 ^ 55 }
-{
-    let n = within.numbers;
-    let keys = product(n.degree, n.digits, n.base, n.noise);
-    let drops = 2 * (n.dropped / 2) as u64 * n.weight as u64;
-    n.dimension as u64 * (keys + drops)
-}
-
-// The stated noise of the paired sweep.
-pub fn paired(within: &Within) -> u64
-    ensures value { result ≡ paired_noise within.now.numbers }
-    ensures small { result ≤ 2 ^ 55 }
-{
-    let n = within.numbers;
-    let keys = product(n.degree, n.digits, n.base, n.noise);
-    let drops = 2 * (n.dropped / 2) as u64 * n.weight as u64;
-    (n.dimension / 2) as u64 * (3 * keys + drops)
 }
 
 // V: the noise of the start key and of the sweep.

@@ -15,7 +15,7 @@ use faults::fault::Fault;
 use kernels::kernel::Kernel;
 use kernels::remainders;
 use set::checked::Set;
-use set::noises;
+use set::steps::Steps;
 use set::within::Within;
 use words::guard::Wiped;
 
@@ -103,7 +103,7 @@ impl Sweep for Single {
     }
 
     fn stated(within: &Within) -> u64 {
-        noises::single(within)
+        Steps::Single.stated(within)
     }
 
     fn selectors(within: &Within) -> usize {

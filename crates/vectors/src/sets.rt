@@ -1,6 +1,7 @@
 use crate::answer::Failure;
 use crate::numbers::words;
 use set::numbers::Numbers;
+use set::steps::Steps;
 use set::{check, noises};
 use std::alloc::Global;
 
@@ -48,11 +49,12 @@ fn numbers_of(words: [u32; 16]) -> Numbers {
 pub fn set(heap: Global, all: &[i64]) -> Result<String, Failure> {
     let (sweep, rest) = all.split_first().ok_or(Failure::Unknown)?;
     let numbers = numbers_of(words(rest)?);
-    let set = match sweep {
-        1 => check::single(numbers)?,
-        2 => check::paired(numbers)?,
+    let steps = match sweep {
+        1 => Steps::Single,
+        2 => Steps::Paired,
         _ => return Err(Failure::Unknown),
     };
+    let set = check::set_for(numbers, steps)?;
     let stated = set.stated;
     let swept = noises::swept(&set.within, stated);
     let switched = noises::switched(&set.within);

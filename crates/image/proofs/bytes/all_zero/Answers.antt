@@ -1,12 +1,10 @@
-use Rattle.std.proofs.Common.{sym, ◌∙◌, arith}
-use Rattle.image.proofs.Words.{spoiled, zero_on, zero_end}
+use Rattle.std.proofs.Common.{eqb, ◌∙◌, rules, tests}
+use Rattle.std.proofs.lemmas.Iterator.{YieldsList-from_slice}
+use Rattle.std.proofs.lemmas.Iterator.Search.{all_from_yields_List}
+use Rattle.image.proofs.Words.{zero_all}
 use Rattle.image.proofs.bytes.all_zero.Goals as goal
 
-pub returns-then-bytes-i-ne0 : goal.returns-then-bytes-i-ne0
-returns-then-bytes-i-ne0 c = sym (c.loop-i.invariant ∙ spoiled c.args.bytes.now c.loop-i.i (omega arith) (λ e. omega arith))
-
-pub loop-i-preserved : goal.loop-i-preserved
-loop-i-preserved c = c.loop-i.invariant ∙ zero_on c.args.bytes.now c.loop-i.i (omega arith) (omega arith)
-
 pub returns : goal.returns
-returns c = sym (c.loop-i.invariant ∙ zero_end c.args.bytes.now c.loop-i.i (omega arith))
+returns c =
+    all_from_yields_List (λ b. eqb b 0) _ _ c.all.result c.all.ensures.ran (YieldsList-from_slice c.args.bytes.now cc) (λ x b q k. search (rules, tests))
+    ∙ zero_all c.args.bytes.now

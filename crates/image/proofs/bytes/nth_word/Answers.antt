@@ -1,6 +1,6 @@
-use Rattle.std.proofs.Common.{◌*◌, arith}
-use Rattle.image.proofs.Words.{word_past}
+use Rattle.std.proofs.Common.{◌∙◌, arith}
+use Rattle.image.proofs.Words.{word_capped}
 use Rattle.image.proofs.bytes.nth_word.Goals as goal
 
-pub returns-then-k-part : goal.returns-then-k-part
-returns-then-k-part c = word_past c.args.part.now (4 * c.args.k) (omega arith)
+pub returns : goal.returns
+returns c = c.word_at.ensures ∙ word_capped c.args.part.now c.args.k c.saturating_mul.result c.saturating_mul.ensures (omega arith)

@@ -1,6 +1,6 @@
 use Rattle.std.proofs.Common.{arith}
 use Rattle.engine.proofs.Highs.{high_inside}
-use Rattle.engine.proofs.parts.high_word.Goals as goal
+use Rattle.engine.proofs.parts.check_below.Goals as goal
 
 pub overflow_add-result : goal.overflow_add-result
 overflow_add-result c =
