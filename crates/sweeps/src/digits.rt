@@ -16,8 +16,8 @@ pub fn lower(acc: &[u32], rest: &mut [u32], shift: u32, modulus: u32)
     ensures value { Lowered modulus (2 ^ shift) acc.now rest.new }
     ensures held { AllHeld modulus rest.new }
 {
-    for k in 0..rest.len() {
-        rest[k] = held::quotient(held::centre(acc[k], modulus), shift, modulus);
+    for (k, x) in rest.iter_mut().enumerate() {
+        *x = held::quotient(held::centre(acc[k], modulus), shift, modulus);
     }
 }
 
@@ -32,10 +32,9 @@ fn peel(rest: &mut [u32], row: &mut [u32], width: u32, modulus: u32)
     ensures rest { Peeled (2 ^ width) rest.old rest.new }
     ensures held { AllHeld modulus rest.new }
 {
-    for k in 0..rest.len() {
-        let x = rest[k];
-        row[k] = held::digit_word(x, width, modulus);
-        rest[k] = held::quotient(x, width, modulus);
+    for (k, x) in rest.iter_mut().enumerate() {
+        row[k] = held::digit_word(*x, width, modulus);
+        *x = held::quotient(*x, width, modulus);
     }
 }
 
@@ -47,8 +46,8 @@ fn finish(rest: &[u32], row: &mut [u32], modulus: u32)
     requires long { length row.old ≡ length rest.now }
     ensures { row.new ≡ words (length rest.now) modulus (λ k. under (slice_index rest.now k)) }
 {
-    for k in 0..row.len() {
-        row[k] = held::whole_word(rest[k], modulus);
+    for (k, word) in row.iter_mut().enumerate() {
+        *word = held::whole_word(rest[k], modulus);
     }
 }
 
