@@ -1,7 +1,7 @@
 -- Sweeps step by step: the parts of the exponents, and the keys of a step.
-use Rattle.std.proofs.Common.{◌≡◌, ℕ, ◌+◌, ◌-◌, ◌*◌, ◌<◌, ◌≤◌, List, ◌++◌, length, take, drop, sym, ap, ◌∙◌, mul-le-mul_right, mul-le-mul_left, mul-one, add-mul, one-mul, arith}
+use Rattle.std.proofs.Common.{◌≡◌, ℕ, ◌+◌, ◌-◌, ◌*◌, ◌/◌, ◌<◌, ◌≤◌, List, ◌++◌, length, take, drop, sym, ap, ◌∙◌, mul-le-mul_right, mul-le-mul_left, mul-one, add-mul, one-mul, arith}
 use Rattle.std.proofs.Math.Seq.{take-append_seam, drop-append_seam}
-use Rattle.std.proofs.Math.Nat.{lt_of_mul-lt-mul_right}
+use Rattle.std.proofs.Math.Nat.{lt_of_mul-lt-mul_right, lt-div-mul-add, div-mul-le_self}
 use Rattle.std.proofs.lemmas.List.{length-append, length-drop, drop-drop}
 use Rattle.sweeps.proofs.Rows.{row_ends}
 
@@ -36,6 +36,13 @@ module _ (part rounds i : ℕ) (some : 0 < part) where
       let a : i < rounds + 1 = lt_of_mul-lt-mul_right part (omega (arith, h, some, add-mul rounds 1 part, one-mul part)) in
       let b : rounds < i + 1 = lt_of_mul-lt-mul_right part (omega (arith, l, add-mul i 1 part, one-mul part)) in
       omega arith
+
+-- the whole parts of `long` words
+pub parts_last : (part long i : ℕ) → 0 < part → i * part ≤ long → long < i * part + part → i ≡ long / part
+parts_last part long i some h l =
+    let a : i < long / part + 1 = lt_of_mul-lt-mul_right part (omega (arith, h, lt-div-mul-add {a = long} some, add-mul (long / part) 1 part, one-mul part)) in
+    let b : long / part < i + 1 = lt_of_mul-lt-mul_right part (omega (arith, l, div-mul-le_self long part, add-mul i 1 part, one-mul part)) in
+    omega arith
 
 pub rounds_few : (part rounds : ℕ) → 0 < part → rounds ≤ rounds * part
 rounds_few part rounds some = let m = mul-le-mul_left rounds some in omega (arith, mul-one rounds)

@@ -52,7 +52,6 @@ impl<K: Kernel> Rows<'_, K> {
         products::gather(
             self.kernel,
             self.set.ring(),
-            self.set.digits(),
             self.digits,
             self.keys,
             j * self.set.digits(),
