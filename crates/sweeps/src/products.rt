@@ -60,6 +60,7 @@ fn fill_rows<K: Kernel>(
     requires held { AllHeld ring.now.modulus rest.old }
     ensures { (i : ℕ) → i < gadget.now.digits → row_of ring.now.degree rows.new i ≡ K.Kernel.form ring.now (digit_row ring.now (2 ^ gadget.now.width) gadget.now.digits rest.old i) }
 {
+    // Counted by hand: tried with chunks_exact_mut, after which a proof knows nothing of the rows, and the clause on them stays open.
     for i in 0..gadget.digits as usize {
         fill_row(kernel, ring, gadget, i, rows, rest, scratch);
     }
