@@ -34,13 +34,7 @@ fn fill_row<K: Kernel>(
     let n = ring.degree;
     let at = i * n;
     let row = &mut rows[at..at + n];
-    digits::cut(
-        rest,
-        row,
-        gadget.digits as usize - i,
-        gadget.width,
-        ring.modulus,
-    );
+    digits::cut(rest, row, gadget.digits as usize - i, gadget);
     let _ = kernel.turn(ring, row, scratch);
 }
 
@@ -83,7 +77,7 @@ pub fn split_rows<K: Kernel>(
     requires scratch { length scratch.old ≡ ring.now.degree }
     ensures { (i : ℕ) → i < gadget.now.digits → K.Kernel.reads ring.now (row_of ring.now.degree rows.new i) ≡ split_row ring.now gadget.now acc.now i }
 {
-    digits::lower(acc, rest, gadget.shift, ring.modulus);
+    digits::lower(acc, rest, gadget);
     fill_rows(kernel, ring, gadget, rows, rest, scratch);
 }
 

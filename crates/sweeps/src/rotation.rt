@@ -10,6 +10,7 @@ ghost use Rattle.sweeps.specs.Mixing.{is_minus, mixed, mixed_poly, MixedEach};
 use crate::external::Rows;
 use kernels::kernel::Kernel;
 use set::checked::Set;
+use words::modulus::Modulus;
 
 // The remainder of a number below 2Q.
 fn once(x: u32, modulus: u32) -> u32
@@ -38,29 +39,28 @@ impl Sign {
 }
 
 // a + moved - still, or a - moved - still.
-fn mix(a: u32, moved: u32, still: u32, sign: Sign, modulus: u32) -> u32
-    requires few { modulus < 2 ^ 31 }
-    requires one { a < modulus }
-    requires two { moved < modulus }
-    requires three { still < modulus }
-    ensures { result ≡ mixed modulus (is_minus sign) a moved still }
+fn mix(a: u32, moved: u32, still: u32, sign: Sign, modulus: Modulus) -> u32
+    requires one { a < modulus.value }
+    requires two { moved < modulus.value }
+    requires three { still < modulus.value }
+    ensures { result ≡ mixed modulus.value (is_minus sign) a moved still }
 {
     let added = match sign {
         Sign::Plus => moved,
-        Sign::Minus => modulus - moved,
+        Sign::Minus => modulus.value - moved,
     };
-    once(once(a + added, modulus) + (modulus - still), modulus)
+    let q = modulus.value;
+    once(once(a + added, q) + (q - still), q)
 }
 
 // The same at each place.
-fn mix_each(acc: &mut [u32], moved: &[u32], still: &[u32], sign: Sign, modulus: u32)
-    requires few { modulus < 2 ^ 31 }
+fn mix_each(acc: &mut [u32], moved: &[u32], still: &[u32], sign: Sign, modulus: Modulus)
     requires moves { length moved.now ≡ length acc.old }
     requires stays { length still.now ≡ length acc.old }
-    requires acc { Below modulus acc.old }
-    requires moved { Below modulus moved.now }
-    requires still { Below modulus still.now }
-    ensures { MixedEach modulus (is_minus sign) moved.now still.now acc.old acc.new }
+    requires acc { Below modulus.value acc.old }
+    requires moved { Below modulus.value moved.now }
+    requires still { Below modulus.value still.now }
+    ensures { MixedEach modulus.value (is_minus sign) moved.now still.now acc.old acc.new }
 {
     for (k, a) in acc.iter_mut().enumerate() {
         *a = mix(*a, moved[k], still[k], sign, modulus);
@@ -68,13 +68,12 @@ fn mix_each(acc: &mut [u32], moved: &[u32], still: &[u32], sign: Sign, modulus: 
 }
 
 // X^j T - T is added, or -X^j T - T, for j at most N.
-fn mix_all(acc: &mut [u32], sum: &[u32], j: usize, sign: Sign, modulus: u32)
-    requires few { modulus < 2 ^ 31 }
+fn mix_all(acc: &mut [u32], sum: &[u32], j: usize, sign: Sign, modulus: Modulus)
     requires long { length sum.now ≡ length acc.old }
     requires place { j ≤ length acc.old }
-    requires acc { Below modulus acc.old }
-    requires sum { Below modulus sum.now }
-    ensures { acc.new ≡ words (length acc.old) modulus (mixed_poly (length acc.old) (is_minus sign) j sum.now acc.old) }
+    requires acc { Below modulus.value acc.old }
+    requires sum { Below modulus.value sum.now }
+    ensures { acc.new ≡ words (length acc.old) modulus.value (mixed_poly (length acc.old) (is_minus sign) j sum.now acc.old) }
 {
     let (stay, back) = sum.split_at(sum.len() - j);
     let (below, above) = sum.split_at(j);
@@ -84,13 +83,12 @@ fn mix_all(acc: &mut [u32], sum: &[u32], j: usize, sign: Sign, modulus: u32)
 }
 
 // (X^turn - 1) T is added, for a turn below 2N.
-fn mix_turned(acc: &mut [u32], sum: &[u32], turn: usize, modulus: u32)
-    requires few { modulus < 2 ^ 31 }
+fn mix_turned(acc: &mut [u32], sum: &[u32], turn: usize, modulus: Modulus)
     requires long { length sum.now ≡ length acc.old }
     requires turn { turn < length acc.old + length acc.old }
-    requires acc { Below modulus acc.old }
-    requires sum { Below modulus sum.now }
-    ensures { acc.new ≡ words (length acc.old) modulus (stepped (length acc.old) turn (coeffs sum.now) (coeffs acc.old)) }
+    requires acc { Below modulus.value acc.old }
+    requires sum { Below modulus.value sum.now }
+    ensures { acc.new ≡ words (length acc.old) modulus.value (stepped (length acc.old) turn (coeffs sum.now) (coeffs acc.old)) }
 {
     let n = acc.len();
     if turn < n {
@@ -116,7 +114,7 @@ fn turn_onto(set: &Set, acc: &mut [u32], sum: &[u32], e: u32)
     ensures value { acc.new ≡ words_in set.now (stepped set.now.within.numbers.degree (turns (numbers_of set.now) e) (coeffs sum.now) (coeffs acc.old)) }
     ensures poly { InRing set.now.ring acc.new }
 {
-    mix_turned(acc, sum, turn_of(set, e), set.ring().modulus);
+    mix_turned(acc, sum, turn_of(set, e), set.gadget().modulus);
 }
 
 // (Y^e - 1) times what the rows' accumulator is when it is taken by key j is added to an accumulator.

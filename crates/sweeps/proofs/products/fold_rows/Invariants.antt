@@ -23,5 +23,5 @@ invariant-loop-row g l =
       value : g.K.Kernel.reads r l.sum
           ≡ words r.degree r.modulus (taken r.degree i
           (λ i. coeffs (g.K.Kernel.reads r (row_of r.degree l.rows i)))
-          (λ i. coeffs (g.K.Kernel.reads r (row_of r.degree l.keys (l.first + i)))))
+          (λ i. coeffs (g.K.Kernel.reads r (row_of r.degree l.keys (l.first + i)))));
     }

@@ -6,7 +6,7 @@ use Rattle.sweeps.proofs.rotation.mix.Goals.{in-Plus, in-Minus}
 
 pub returns : goal.returns
 returns c =
-    let Q = c.args.modulus in
+    let Q = c.args.modulus.value in
     let a = c.args.a in
     let m = c.args.moved in
     let s = c.args.still in

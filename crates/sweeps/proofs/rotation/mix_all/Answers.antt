@@ -5,7 +5,7 @@ use Rattle.sweeps.proofs.rotation.mix_all.Goals as goal
 
 pub returns : goal.returns
 returns c =
-    let Q = c.args.modulus in
+    let Q = c.args.modulus.value in
     let j = c.args.j in
     let sum = c.args.sum.now in
     let acc = c.args.acc.now in
