@@ -1,7 +1,8 @@
 -- (X^j - 1) T added to an accumulator.
-use Rattle.std.proofs.Common.{◌≡◌, ℕ, ◌+◌, ◌-◌, ◌*◌, ◌%◌, ◌<◌, ◌≤◌, Bool, true, false, not, List, length, get_or, ℤ, pos, ◌+ℤ◌, ◌-ℤ◌, neg_ℤ, sym, refl, ap, ◌∙◌, inl, inr, mod-lt, mod-eq_of_lt, arith}
+use Rattle.std.proofs.Common.{◌≡◌, ℕ, ◌+◌, ◌-◌, ◌*◌, ◌%◌, ◌<◌, ◌≤◌, Bool, true, false, not, List, length, take, drop, ◌++◌, get_or, ℤ, pos, ◌+ℤ◌, ◌-ℤ◌, neg_ℤ, sym, refl, ap, ◌∙◌, inl, inr, mod-lt, mod-eq_of_lt, arith}
 use Rattle.std.proofs.lemmas.Int.{ints}
 use Rattle.std.proofs.lemmas.Nat.{mod-mul-add}
+use Rattle.std.proofs.lemmas.List.{get_or_append_left, get_or-append_right, get_or-take, get_or-drop, length-append, length-take-le, length-drop}
 use Rattle.std.proofs.lemmas.Bool.{cases_lt, lt-ltb, le-ltb}
 use Rattle.algebra.specs.Ints.{Cong}
 use Rattle.algebra.specs.Polys.{Poly, Alike, power}
@@ -12,7 +13,7 @@ use Rattle.algebra.proofs.Bridge.{mod_cong, word_is}
 use Rattle.algebra.proofs.Norms.{power_alike}
 use Rattle.algebra.proofs.Powers.{power_wrapped, power_upper, power_agree}
 use Rattle.algebra.proofs.Words.{words_same, words_alike}
-use Rattle.sweeps.specs.Mixing.{turned_if, mixed, mixed_poly}
+use Rattle.sweeps.specs.Mixing.{turned_if, mixed, mixed_poly, MixedEach}
 use Rattle.sweeps.proofs.Filled.{words_fill, words_each}
 
 -- remainders of numbers below 2Q
@@ -47,21 +48,31 @@ turn_not : (b : Bool) (z : ℤ) → turned_if (not b) z ≡ turned_if b (neg_ℤ
 turn_not true z = omega (arith, ints)
 turn_not false z = refl
 
-pub mix_whole : (Q j : ℕ) (back : Bool) (sum acc mid new : List ℕ) → length new ≡ length acc → length sum ≡ length acc → j ≤ length acc
-    → ((k : ℕ) → k < j → get_or mid k 0 ≡ mixed Q (not back) (get_or acc k 0) (get_or sum (length sum + k - j) 0) (get_or sum k 0))
-    → ((k : ℕ) → j ≤ k → get_or mid k 0 ≡ get_or acc k 0)
-    → ((k : ℕ) → j ≤ k → k < length mid → get_or new k 0 ≡ mixed Q back (get_or mid k 0) (get_or sum (k - j) 0) (get_or sum k 0))
-    → ((k : ℕ) → k < j → get_or new k 0 ≡ get_or mid k 0)
-    → length mid ≡ length acc
-    → new ≡ words (length acc) Q (mixed_poly (length acc) back j sum acc)
-mix_whole Q j back sum acc mid new ln ls lj low keep high done lm =
-    words_fill (length acc) Q (mixed_poly (length acc) back j sum acc) new ln (λ k l. elim (cases_lt k j) [
-      | inl b ↦ rw (lt-ltb k j b) (done k b ∙ low k b
+pub mix_whole : (Q j : ℕ) (back : Bool) (sum acc low high : List ℕ) → length sum ≡ length acc → j ≤ length acc
+    → length low ≡ j → length high + j ≡ length acc
+    → MixedEach Q (not back) (drop (length sum - j) sum) (take j sum) (take j acc) low
+    → MixedEach Q back (take (length sum - j) sum) (drop j sum) (drop j acc) high
+    → low ++ high ≡ words (length acc) Q (mixed_poly (length acc) back j sum acc)
+mix_whole Q j back sum acc low high ls lj ll lh first second =
+    words_fill (length acc) Q (mixed_poly (length acc) back j sum acc) (low ++ high) (length-append low high ∙ omega arith) (λ k l. elim (cases_lt k j) [
+      | inl b ↦ rw (lt-ltb k j b)
+          (get_or_append_left low high 0 k (omega arith)
+          ∙ first k (omega (arith, length-take-le j acc lj))
+          ∙ each (not back) (get_or-take j acc k 0 b) (get_or-drop (length sum - j) sum k 0) (get_or-take j sum k 0 b)
           ∙ ap (λ (z : ℤ). word_of Q (coeffs acc k +ℤ (z -ℤ coeffs sum k)))
-          (turn_not back (coeffs sum (length sum + k - j)) ∙ ap (λ (n : ℕ). turned_if back (neg_ℤ (coeffs sum (n + k - j)))) ls))
-      | inr a ↦ rw (le-ltb k j a) (high k a (omega arith)
-          ∙ ap (λ (n : ℕ). word_of Q (pos n +ℤ (turned_if back (coeffs sum (k - j)) -ℤ coeffs sum k))) (keep k a))
+          (turn_not back (coeffs sum (length sum - j + k))
+          ∙ ap (λ (n : ℕ). turned_if back (neg_ℤ (coeffs sum n))) {x = length sum - j + k} {y = length acc + k - j} (omega arith)))
+      | inr a ↦ rw (le-ltb k j a)
+          (get_or-append_right low high j k 0 ll a
+          ∙ second (k - j) (omega (arith, length-drop j acc))
+          ∙ each back (get_or-drop j acc (k - j) 0 ∙ back_at acc k a) (get_or-take (length sum - j) sum (k - j) 0 (omega arith)) (get_or-drop j sum (k - j) 0 ∙ back_at sum k a))
     ])
+  where
+    each : (s : Bool) {a b m n x y : ℕ} → a ≡ b → m ≡ n → x ≡ y → mixed Q s a m x ≡ mixed Q s b n y
+    each s e f g = rw (e, f, g) refl
+
+    back_at : (xs : List ℕ) (k : ℕ) → j ≤ k → get_or xs (j + (k - j)) 0 ≡ get_or xs k 0
+    back_at xs k h = ap (λ (n : ℕ). get_or xs n 0) {x = j + (k - j)} {y = k} (omega arith)
 
 -- turns below N, and from N on
 pub mixed_under : (N Q t : ℕ) (sum acc : List ℕ) → t ≤ N → words N Q (mixed_poly N false t sum acc) ≡ words N Q (stepped N t (coeffs sum) (coeffs acc))

@@ -7,6 +7,7 @@ pub mod Layout
 pub mod External
 pub mod Mixing
 pub mod Steps
+pub mod Walks
 pub mod Checking
 pub mod Making
 pub mod TakeLaws

@@ -1,7 +1,14 @@
 -- (X^j - 1) T added to an accumulator, place by place.
-use Rattle.std.specs.Prelude.{◌≡◌, ℕ, ◌+◌, ◌-◌, ◌<◌, ◌≤◌, Bool, cond, List, length, ℤ, pos, ◌+ℤ◌, ◌-ℤ◌, neg_ℤ, slice_index}
+use Rattle.std.specs.Prelude.{◌≡◌, ℕ, ◌<◌, Bool, true, false, cond, List, length, ℤ, pos, ◌+ℤ◌, ◌-ℤ◌, neg_ℤ, slice_index}
+use Rattle.sweeps.specs.declared.rotation.Sign.{Sign}
+use Rattle.sweeps.specs.declared.rotation.Sign.TheVariants.{Plus, Minus}
 use Rattle.algebra.specs.Polys.{Poly, wrapped}
 use Rattle.algebra.specs.Words.{coeffs, word_of}
+
+-- whether a sign turns a coefficient's
+abbrev pub is_minus : Sign → Bool
+is_minus Plus = false
+is_minus Minus = true
 
 -- a coefficient, with its sign turned where `back`
 abbrev pub turned_if : Bool → ℤ → ℤ
@@ -15,11 +22,7 @@ mixed Q back a moved still = word_of Q (pos a +ℤ (turned_if back (pos moved) -
 abbrev pub mixed_poly : ℕ → Bool → ℕ → List ℕ → List ℕ → Poly
 mixed_poly N back j sum acc k = coeffs acc k +ℤ (turned_if back (wrapped N j (coeffs sum) k) -ℤ coeffs sum k)
 
--- the places below j, where what passes the end comes back, and those from j on
-abbrev pub MixedLow : ℕ → Bool → ℕ → List ℕ → List ℕ → List ℕ → Type 0
-MixedLow Q back j sum acc new =
-    (k : ℕ) → k < j → slice_index new k ≡ mixed Q back (slice_index acc k) (slice_index sum (length sum + k - j)) (slice_index sum k)
-
-abbrev pub MixedHigh : ℕ → Bool → ℕ → List ℕ → List ℕ → List ℕ → Type 0
-MixedHigh Q back j sum acc new =
-    (k : ℕ) → j ≤ k → k < length acc → slice_index new k ≡ mixed Q back (slice_index acc k) (slice_index sum (k - j)) (slice_index sum k)
+-- each place of one list mixed with the same place of two others
+abbrev pub MixedEach : ℕ → Bool → List ℕ → List ℕ → List ℕ → List ℕ → Type 0
+MixedEach Q back moved still acc new =
+    (k : ℕ) → k < length acc → slice_index new k ≡ mixed Q back (slice_index acc k) (slice_index moved k) (slice_index still k)

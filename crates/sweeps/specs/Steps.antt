@@ -5,6 +5,8 @@ use Rattle.algebra.specs.Sweeps.{stepped, paired}
 use Rattle.algebra.specs.Words.{coeffs, words}
 use Rattle.set.specs.declared.numbers.Numbers.{Numbers}
 use Rattle.set.specs.declared.within.Within.{Within}
+use Rattle.sweeps.specs.declared.paired.Part.{Part}
+use Rattle.sweeps.specs.declared.paired.Part.TheVariants.{Both, First, Second}
 use Rattle.sweeps.specs.Fit.{entries}
 use Rattle.sweeps.specs.External.{taken_by}
 use Rattle.sweeps.specs.Meaning.{turns}
@@ -50,6 +52,12 @@ abbrev pub pair_part : ℕ → ℤ → ℤ → ℤ
 pair_part zero s t = s *ℤ t
 pair_part (suc zero) s t = s *ℤ (pos 1 -ℤ t)
 pair_part (suc (suc k)) s t = t *ℤ (pos 1 -ℤ s)
+
+-- a selector by its place among the three of its pair
+abbrev pub number_of : Part → ℕ
+number_of Both = 0
+number_of First = 1
+number_of Second = 2
 
 abbrev pub paired_message : Within → List ℤ → ℕ → List ℕ
 paired_message w s j = constant w.numbers (pair_part (j % 3) (entries s (2 * (j / 3))) (entries s (2 * (j / 3) + 1)))

@@ -9,13 +9,6 @@ use set::checked::Set;
 use set::numbers::Numbers;
 use set::within::Within;
 
-// The noise that a sweep states.
-fn noise_of<S: Sweep>(within: &Within) -> u64
-    ensures { result ≡ S.Sweep.noise within.now }
-{
-    S::stated(within)
-}
-
 // Sixteen numbers checked for a sweep: the set keeps its stated noise.
 pub fn check_for<S: Sweep>(numbers: Numbers) -> Result<Set, Fault>
     ensures answer { (stated : ℕ) → StatedFor S.Sweep.noise numbers stated → refusal result ≡ set_broken numbers stated }
@@ -23,5 +16,6 @@ pub fn check_for<S: Sweep>(numbers: Numbers) -> Result<Set, Fault>
     ensures least { (stated : ℕ) → StatedFor S.Sweep.noise numbers stated → Least (WrongSet numbers stated) (refusal result) }
 {
     let within = set::check::within(numbers)?;
-    set::check::checked(within, noise_of::<S>(&within))
+    let stated = S::stated(&within);
+    set::check::checked(within, stated)
 }

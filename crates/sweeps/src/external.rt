@@ -5,8 +5,8 @@ ghost use Rattle.kernels.specs.Polynomials.{InRing, poly_of};
 ghost use Rattle.sweeps.specs.External.{Spread, ForDigits, taken_by, taken_words, take_refused};
 ghost use Rattle.sweeps.specs.Layout.{numbers_of, key_long, work_long, key_end, polys_in};
 
-use crate::products;
-use faults::fault::{Fault, Layer};
+use crate::{lengths, products};
+use faults::fault::Fault;
 use kernels::kernel::Kernel;
 use kernels::remainders;
 use set::checked::Set;
@@ -30,33 +30,35 @@ pub(crate) fn spread<K: Kernel>(
     products::split_rows(kernel, set.ring(), set.gadget(), acc, rows, rest, scratch);
 }
 
-// What the rows' accumulator is when it is taken by key j.
-pub(crate) fn collect<K: Kernel>(
-    kernel: &K,
-    set: &Set,
-    rows: &[u32],
-    keys: &[u32],
-    j: usize,
-    sum: &mut [u32],
-    scratch: &mut [u32],
-)
-    requires rows { length rows.now ≡ key_long set.now }
-    requires keys { key_end set.now j * set.now.within.numbers.degree ≤ length keys.now }
-    requires sum { length sum.old ≡ set.now.within.numbers.degree }
-    requires scratch { length scratch.old ≡ set.now.within.numbers.degree }
-    ensures value { ForDigits K.Kernel.reads set.now j keys.now rows.now (λ old polys. taken_by (numbers_of set.now) polys j old) sum.new }
-    ensures poly { InRing set.now.ring sum.new }
-{
-    products::gather(
-        kernel,
-        set.ring(),
-        set.digits(),
-        rows,
-        keys,
-        j * set.digits(),
-        sum,
-        scratch,
-    );
+// The digits of an accumulator as rows of forms, with the keys that take it.
+#[derive(Drop)]
+pub(crate) struct Rows<'a, K> {
+    pub(crate) kernel: &'a K,
+    pub(crate) set: &'a Set,
+    pub(crate) digits: &'a [u32],
+    pub(crate) keys: &'a [u32],
+    ghost long: { length digits.now ≡ key_long set.now },
+}
+
+impl<K: Kernel> Rows<'_, K> {
+    // What the accumulator is when it is taken by key j.
+    pub(crate) fn collect(&self, j: usize, sum: &mut [u32], scratch: &mut [u32])
+        requires keys { key_end self.now.set.now j * self.now.set.now.within.numbers.degree ≤ length self.now.keys.now }
+        requires sum { length sum.old ≡ self.now.set.now.within.numbers.degree }
+        requires scratch { length scratch.old ≡ self.now.set.now.within.numbers.degree }
+        ensures value { ForDigits K.Kernel.reads self.now.set.now j self.now.keys.now self.now.digits.now (λ old polys. taken_by (numbers_of self.now.set.now) polys j old) sum.new }
+        ensures poly { InRing self.now.set.now.ring sum.new }
+    {
+        products::gather(
+            self.kernel,
+            self.set.ring(),
+            self.digits,
+            self.keys,
+            j * self.set.digits(),
+            sum,
+            scratch,
+        );
+    }
 }
 
 // An accumulator below Q becomes itself taken by a key.
@@ -76,7 +78,13 @@ fn take_by<K: Kernel>(
 {
     let (rows, sum) = work.split_at_mut(key_words(set));
     spread(kernel, set, acc, rows, sum, scratch);
-    collect(kernel, set, rows, key, 0, sum, scratch);
+    let taken = Rows {
+        kernel,
+        set,
+        digits: rows,
+        keys: key,
+    };
+    taken.collect(0, sum, scratch);
     acc.copy_from_slice(sum);
 }
 
@@ -94,35 +102,14 @@ pub(crate) fn work_words(set: &Set) -> usize
     (set.digits() + 1) * set.degree()
 }
 
-// Why the lists of the external product are refused.
-fn take_fault(set: &Set, acc: usize, key: usize, work: usize, scratch: usize) -> Option<Fault>
-    ensures { result ≡ take_refused (numbers_of set.now) acc key work scratch }
+// The lists of the external product have their lengths.
+fn check_take(set: &Set, acc: usize, key: usize, work: usize, scratch: usize) -> Result<(), Fault>
+    ensures { result ≡ told (take_refused (numbers_of set.now) acc key work scratch) }
 {
-    if acc != set.degree() {
-        return Some(Fault::Length {
-            list: 0,
-            part: Layer::Sweep,
-        });
-    }
-    if key != key_words(set) {
-        return Some(Fault::Length {
-            list: 1,
-            part: Layer::Sweep,
-        });
-    }
-    if work != work_words(set) {
-        return Some(Fault::Length {
-            list: 2,
-            part: Layer::Sweep,
-        });
-    }
-    if scratch != set.degree() {
-        return Some(Fault::Length {
-            list: 3,
-            part: Layer::Sweep,
-        });
-    }
-    None
+    lengths::check_length(0, acc, set.degree())?;
+    lengths::check_length(1, key, key_words(set))?;
+    lengths::check_length(2, work, work_words(set))?;
+    lengths::check_length(3, scratch, set.degree())
 }
 
 // The external product: an accumulator becomes itself taken by a key of d polynomials, kept as forms.
@@ -141,15 +128,13 @@ pub fn take<K: Kernel>(
 {
     let room = Wiped { words: work };
     let spare = Wiped { words: scratch };
-    if let Some(fault) = take_fault(
+    check_take(
         set,
         acc.len(),
         key.len(),
         room.words.len(),
         spare.words.len(),
-    ) {
-        return Err(fault);
-    }
+    )?;
     remainders::reduce(set.ring(), acc);
     take_by(kernel, set, acc, key, room.words, spare.words);
     Ok(())

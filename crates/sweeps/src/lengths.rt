@@ -1,10 +1,25 @@
-ghost use Rattle.std.specs.Prelude.{◌≡◌, ℕ, ◌*◌, ◌^◌, ◌≤◌};
+ghost use Rattle.std.specs.Prelude.{◌≡◌, ℕ, ◌*◌, ◌^◌, ◌≤◌, ◌==◌};
+ghost use Rattle.faults.specs.Least.{told, unless};
 ghost use Rattle.sweeps.specs.Meaning.{sweep_refused, message_refused};
 
 use crate::external;
 use faults::fault::{Fault, Layer};
 use set::checked::Set;
 use set::within::Within;
+
+// A list has the length that is wanted.
+pub(crate) fn check_length(list: u32, have: usize, want: usize) -> Result<(), Fault>
+    ensures { result ≡ told (unless (have == want) (Fault.Length list Layer.Sweep)) }
+{
+    if have == want {
+        Ok(())
+    } else {
+        Err(Fault::Length {
+            list,
+            part: Layer::Sweep,
+        })
+    }
+}
 
 // The words of `count` selectors.
 fn selector_words(set: &Set, count: usize) -> usize
@@ -14,8 +29,8 @@ fn selector_words(set: &Set, count: usize) -> usize
     count * set.digits() * set.degree()
 }
 
-// Why the lists of a sweep of `count` selectors are refused.
-pub(crate) fn sweep_fault(
+// The lists of a sweep of `count` selectors have their lengths.
+pub(crate) fn check_sweep(
     set: &Set,
     count: usize,
     acc: usize,
@@ -23,58 +38,21 @@ pub(crate) fn sweep_fault(
     keys: usize,
     work: usize,
     scratch: usize,
-) -> Option<Fault>
+) -> Result<(), Fault>
     requires { count ≤ 2 ^ 14 }
-    ensures { result ≡ sweep_refused set.now.within.numbers count acc exponents keys work scratch }
+    ensures { result ≡ told (sweep_refused set.now.within.numbers count acc exponents keys work scratch) }
 {
-    if acc != set.degree() {
-        return Some(Fault::Length {
-            list: 0,
-            part: Layer::Sweep,
-        });
-    }
-    if exponents != set.dimension() {
-        return Some(Fault::Length {
-            list: 1,
-            part: Layer::Sweep,
-        });
-    }
-    if keys != selector_words(set, count) {
-        return Some(Fault::Length {
-            list: 2,
-            part: Layer::Sweep,
-        });
-    }
-    if work != external::work_words(set) {
-        return Some(Fault::Length {
-            list: 3,
-            part: Layer::Sweep,
-        });
-    }
-    if scratch != set.degree() {
-        return Some(Fault::Length {
-            list: 4,
-            part: Layer::Sweep,
-        });
-    }
-    None
+    check_length(0, acc, set.degree())?;
+    check_length(1, exponents, set.dimension())?;
+    check_length(2, keys, selector_words(set, count))?;
+    check_length(3, work, external::work_words(set))?;
+    check_length(4, scratch, set.degree())
 }
 
-// Why the lists of a message are refused.
-pub(crate) fn message_fault(within: &Within, secret: usize, out: usize) -> Option<Fault>
-    ensures { result ≡ message_refused within.now.numbers secret out }
+// The lists of a message have their lengths.
+pub(crate) fn check_message(within: &Within, secret: usize, out: usize) -> Result<(), Fault>
+    ensures { result ≡ told (message_refused within.now.numbers secret out) }
 {
-    if secret != within.numbers.dimension as usize {
-        return Some(Fault::Length {
-            list: 0,
-            part: Layer::Sweep,
-        });
-    }
-    if out != within.numbers.degree as usize {
-        return Some(Fault::Length {
-            list: 1,
-            part: Layer::Sweep,
-        });
-    }
-    None
+    check_length(0, secret, within.numbers.dimension as usize)?;
+    check_length(1, out, within.numbers.degree as usize)
 }

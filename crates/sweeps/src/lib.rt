@@ -13,3 +13,4 @@ mod products;
 mod rotation;
 pub mod single;
 pub mod sweep;
+mod walk;

@@ -10,11 +10,7 @@ pub(crate) fn entry(secret: &[i32], index: usize) -> i64
     ensures value { result ≡ entries secret.now index }
     ensures small { unsigned_abs result ≤ 2 ^ 31 }
 {
-    if index < secret.len() {
-        secret[index] as i64
-    } else {
-        0
-    }
+    secret.get(index).map_or(0, |z| *z as i64)
 }
 
 // The word of an integer.

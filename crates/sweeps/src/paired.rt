@@ -1,112 +1,20 @@
-ghost use Rattle.std.specs.Prelude.{◌≡◌, ℕ, ◌+◌, ◌*◌, ◌/◌, ◌%◌, ◌^◌, ◌≤◌, length, replicate, pos, ◌-ℤ◌, ◌*ℤ◌, unsigned_abs};
-ghost use Rattle.faults.specs.Least.{told};
-ghost use Rattle.kernels.specs.Lengths.{after};
-ghost use Rattle.kernels.specs.Polynomials.{InRing};
-ghost use Rattle.sweeps.specs.Layout.{numbers_of, work_long, key_end, polys_in};
-ghost use Rattle.sweeps.specs.Steps.{pair_part, paired_step, paired_run, paired_message};
+ghost use Rattle.std.specs.Prelude.{◌≡◌, ℕ, ◌+◌, ◌*◌, ◌/◌, ◌%◌, ◌^◌, ◌≤◌, pos, ◌-ℤ◌, ◌*ℤ◌, unsigned_abs};
 ghost use Rattle.set.specs.Noise.{paired_noise};
+ghost use Rattle.sweeps.specs.Fit.{entries};
 ghost use Rattle.sweeps.specs.Meanings.{paired_means, paired_closed, constant_poly};
 ghost use Rattle.sweeps.specs.Small.{paired_few};
-ghost use Rattle.sweeps.specs.Fit.{entries};
+ghost use Rattle.sweeps.specs.Steps.{number_of, pair_part, paired_steps, paired_run, paired_message};
+ghost use Rattle.sweeps.specs.Walks.{paired_taking, paired_parts, paired_starts, paired_goes, paired_ends};
 
+use crate::external::Rows;
 use crate::sweep::Sweep;
-use crate::{external, lengths, messages, rotation};
+use crate::walk::Step;
+use crate::{external, lengths, messages, rotation, walk};
 use faults::fault::Fault;
 use kernels::kernel::Kernel;
-use kernels::remainders;
 use set::checked::Set;
 use set::steps::Steps;
 use set::within::Within;
-use words::guard::Wiped;
-
-// Step i, by the exponents a and b: the digits are split and turned once, and all three selectors take the old accumulator.
-fn step<K: Kernel>(
-    kernel: &K,
-    set: &Set,
-    acc: &mut [u32],
-    keys: &[u32],
-    i: usize,
-    a: u16,
-    b: u16,
-    work: &mut [u32],
-    scratch: &mut [u32],
-)
-    requires acc { InRing set.now.ring acc.old }
-    requires keys { key_end set.now (3 * i + 2) * set.now.within.numbers.degree ≤ length keys.now }
-    requires work { length work.old ≡ work_long set.now }
-    requires scratch { length scratch.old ≡ set.now.within.numbers.degree }
-    requires few { i ≤ 256 }
-    ensures value { (total : ℕ) → key_end set.now (3 * i + 2) ≤ total → acc.new ≡ paired_step (numbers_of set.now) (polys_in K.Kernel.reads set.now total keys.now) i a b acc.old }
-    ensures poly { InRing set.now.ring acc.new }
-{
-    let (rows, sum) = work.split_at_mut(external::key_words(set));
-    external::spread(kernel, set, acc, rows, sum, scratch);
-    rotation::add_taken(
-        kernel,
-        set,
-        acc,
-        rows,
-        keys,
-        3 * i,
-        a as u32 + b as u32,
-        sum,
-        scratch,
-    );
-    rotation::add_taken(
-        kernel,
-        set,
-        acc,
-        rows,
-        keys,
-        3 * i + 1,
-        a as u32,
-        sum,
-        scratch,
-    );
-    rotation::add_taken(
-        kernel,
-        set,
-        acc,
-        rows,
-        keys,
-        3 * i + 2,
-        b as u32,
-        sum,
-        scratch,
-    );
-}
-
-// All steps, with rising i.
-fn steps<K: Kernel>(
-    kernel: &K,
-    set: &Set,
-    acc: &mut [u32],
-    exponents: &[u16],
-    keys: &[u32],
-    work: &mut [u32],
-    scratch: &mut [u32],
-)
-    requires acc { InRing set.now.ring acc.old }
-    requires exponents { length exponents.now ≡ set.now.within.numbers.dimension }
-    requires keys { length keys.now ≡ 3 * (set.now.within.numbers.dimension / 2) * set.now.within.numbers.digits * set.now.within.numbers.degree }
-    requires work { length work.old ≡ work_long set.now }
-    requires scratch { length scratch.old ≡ set.now.within.numbers.degree }
-    ensures { acc.new ≡ paired_run (numbers_of set.now) exponents.now (polys_in K.Kernel.reads set.now (3 * (set.now.within.numbers.dimension / 2) * set.now.within.numbers.digits) keys.now) acc.old }
-{
-    for i in 0..exponents.len() / 2 {
-        step(
-            kernel,
-            set,
-            acc,
-            keys,
-            i,
-            exponents[2 * i],
-            exponents[2 * i + 1],
-            work,
-            scratch,
-        );
-    }
-}
 
 // The product of two entries, or of an entry and 1 less an entry.
 fn times(a: i64, b: i64) -> i64
@@ -126,16 +34,36 @@ fn other(a: i64) -> i64
     1 - a
 }
 
-// The message of one of the three selectors of the bits s and t: s t, s (1 - t), t (1 - s).
-fn part(which: usize, s: i64, t: i64) -> i64
-    requires one { unsigned_abs s ≤ 2 ^ 31 }
-    requires two { unsigned_abs t ≤ 2 ^ 31 }
-    ensures { result ≡ pair_part which s t }
-{
-    match which {
-        0 => times(s, t),
-        1 => times(s, other(t)),
-        _ => times(t, other(s)),
+// A selector of a pair of bits s and t, by its message: s t, s (1 - t) or t (1 - s).
+#[derive(Clone, Copy)]
+enum Part {
+    Both,
+    First,
+    Second,
+}
+
+impl Part {
+    // The selectors of all pairs stand one after the other.
+    fn of(index: usize) -> Part
+        ensures { number_of result ≡ index % 3 }
+    {
+        match index % 3 {
+            0 => Part::Both,
+            1 => Part::First,
+            _ => Part::Second,
+        }
+    }
+
+    fn message(self, s: i64, t: i64) -> i64
+        requires one { unsigned_abs s ≤ 2 ^ 31 }
+        requires two { unsigned_abs t ≤ 2 ^ 31 }
+        ensures { result ≡ pair_part (number_of self) s t }
+    {
+        match self {
+            Part::Both => times(s, t),
+            Part::First => times(s, other(t)),
+            Part::Second => times(t, other(s)),
+        }
     }
 }
 
@@ -177,13 +105,11 @@ impl Sweep for Paired {
     }
 
     fn tell(within: &Within, secret: &[i32], index: usize, out: &mut [u32]) -> Result<(), Fault> {
-        if let Some(fault) = lengths::message_fault(within, secret.len(), out.len()) {
-            return Err(fault);
-        }
+        lengths::check_message(within, secret.len(), out.len())?;
         let first = 2 * (index / 3);
         let s = messages::entry(secret, first);
         let t = messages::entry(secret, first + 1);
-        messages::write_constant(within, part(index % 3, s, t), out);
+        messages::write_constant(within, Part::of(index).message(s, t), out);
         Ok(())
     }
 
@@ -197,22 +123,67 @@ impl Sweep for Paired {
         work: &mut [u32],
         scratch: &mut [u32],
     ) -> Result<(), Fault> {
-        let room = Wiped { words: work };
-        let spare = Wiped { words: scratch };
-        let count = 3 * (set.dimension() / 2);
-        if let Some(fault) = lengths::sweep_fault(
+        walk::sweep::<Paired, K>(
+            kernel,
             set,
-            count,
-            acc.len(),
-            exponents.len(),
-            keys.len(),
-            room.words.len(),
-            spare.words.len(),
-        ) {
-            return Err(fault);
-        }
-        remainders::reduce(set.ring(), acc);
-        steps(kernel, set, acc, exponents, keys, room.words, spare.words);
-        Ok(())
+            3 * (set.dimension() / 2),
+            acc,
+            exponents,
+            keys,
+            work,
+            scratch,
+        )
+    }
+}
+
+impl Step for Paired {
+    const EXPONENTS: usize = 2;
+
+    ghost EXPONENTS = { 2 };
+
+    ghost rounds = { λ w. w.numbers.dimension / 2 };
+
+    ghost count = { λ w. 3 * (w.numbers.dimension / 2) };
+
+    ghost last = { λ i. 3 * i + 2 };
+
+    ghost stepped = { paired_taking };
+
+    ghost walked = { paired_steps };
+
+    ghost run = { paired_run };
+
+    ghost parts = { paired_parts };
+
+    ghost starts = { paired_starts };
+
+    ghost goes = { paired_goes };
+
+    ghost ends = { paired_ends };
+
+    // The digits are split and turned once, and all three selectors take the old accumulator.
+    fn step<K: Kernel>(
+        kernel: &K,
+        set: &Set,
+        acc: &mut [u32],
+        exponents: &[u16],
+        keys: &[u32],
+        i: usize,
+        work: &mut [u32],
+        scratch: &mut [u32],
+    ) {
+        let (digits, sum) = work.split_at_mut(external::key_words(set));
+        external::spread(kernel, set, acc, digits, sum, scratch);
+        let rows = Rows {
+            kernel,
+            set,
+            digits,
+            keys,
+        };
+        let a = exponents[0] as u32;
+        let b = exponents[1] as u32;
+        rotation::add_taken(&rows, 3 * i, a + b, acc, sum, scratch);
+        rotation::add_taken(&rows, 3 * i + 1, a, acc, sum, scratch);
+        rotation::add_taken(&rows, 3 * i + 2, b, acc, sum, scratch);
     }
 }

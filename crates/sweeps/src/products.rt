@@ -1,4 +1,4 @@
-ghost use Rattle.std.specs.Prelude.{◌≡◌, ℕ, ◌+◌, ◌-◌, ◌*◌, ◌^◌, ◌<◌, ◌≤◌, length, pos};
+ghost use Rattle.std.specs.Prelude.{◌≡◌, ℕ, ◌+◌, ◌-◌, ◌*◌, ◌/◌, ◌^◌, ◌<◌, ◌≤◌, length, pos};
 ghost use borrow.Rule.Slice.PartMut.{put_mid};
 ghost use Rattle.algebra.specs.Words.{words};
 ghost use Rattle.kernels.specs.Polynomials.{InRing};
@@ -34,13 +34,7 @@ fn fill_row<K: Kernel>(
     let n = ring.degree;
     let at = i * n;
     let row = &mut rows[at..at + n];
-    digits::cut(
-        rest,
-        row,
-        gadget.digits as usize - i,
-        gadget.width,
-        ring.modulus,
-    );
+    digits::cut(rest, row, gadget.digits as usize - i, gadget);
     let _ = kernel.turn(ring, row, scratch);
 }
 
@@ -60,6 +54,7 @@ fn fill_rows<K: Kernel>(
     requires held { AllHeld ring.now.modulus rest.old }
     ensures { (i : ℕ) → i < gadget.now.digits → row_of ring.now.degree rows.new i ≡ K.Kernel.form ring.now (digit_row ring.now (2 ^ gadget.now.width) gadget.now.digits rest.old i) }
 {
+    // Counted by hand: tried with chunks_exact_mut, after which a proof knows nothing of the rows, and the clause on them stays open.
     for i in 0..gadget.digits as usize {
         fill_row(kernel, ring, gadget, i, rows, rest, scratch);
     }
@@ -82,39 +77,28 @@ pub fn split_rows<K: Kernel>(
     requires scratch { length scratch.old ≡ ring.now.degree }
     ensures { (i : ℕ) → i < gadget.now.digits → K.Kernel.reads ring.now (row_of ring.now.degree rows.new i) ≡ split_row ring.now gadget.now acc.now i }
 {
-    digits::lower(acc, rest, gadget.shift, ring.modulus);
+    digits::lower(acc, rest, gadget);
     fill_rows(kernel, ring, gadget, rows, rest, scratch);
-}
-
-// The i-th row of n words.
-fn row(rows: &[u32], i: usize, n: usize) -> &[u32]
-    requires { i * n + n ≤ length rows.now }
-    ensures same { result.now ≡ row_of n rows.now i }
-    ensures long { length result.now ≡ n }
-{
-    let at = i * n;
-    &rows[at..at + n]
 }
 
 // The products of the rows with those of a key, from the row `first` on, are added to a form.
 fn fold_rows<K: Kernel>(
     kernel: &K,
     ring: &Ring,
-    count: usize,
     rows: &[u32],
     keys: &[u32],
     first: usize,
     sum: &mut [u32],
 )
-    requires rows { count * ring.now.degree ≤ length rows.now }
-    requires keys { (first + count) * ring.now.degree ≤ length keys.now }
+    requires keys { first * ring.now.degree + length rows.now ≤ length keys.now }
     requires sum { length sum.old ≡ ring.now.degree }
     requires zero { K.Kernel.reads ring.now sum.old ≡ words ring.now.degree ring.now.modulus (λ k. pos 0) }
-    ensures { K.Kernel.reads ring.now sum.new ≡ gathered K.Kernel.reads ring.now count rows.now keys.now first }
+    ensures { K.Kernel.reads ring.now sum.new ≡ gathered K.Kernel.reads ring.now (length rows.now / ring.now.degree) rows.now keys.now first }
 {
     let n = ring.degree;
-    for i in 0..count {
-        let _ = kernel.fold(ring, sum, row(rows, i, n), row(keys, first + i, n));
+    let key = &keys[first * n..];
+    for (row, part) in rows.chunks_exact(n).zip(key.chunks_exact(n)) {
+        let _ = kernel.fold(ring, sum, row, part);
     }
 }
 
@@ -122,21 +106,19 @@ fn fold_rows<K: Kernel>(
 pub fn gather<K: Kernel>(
     kernel: &K,
     ring: &Ring,
-    count: usize,
     rows: &[u32],
     keys: &[u32],
     first: usize,
     sum: &mut [u32],
     scratch: &mut [u32],
 )
-    requires rows { count * ring.now.degree ≤ length rows.now }
-    requires keys { (first + count) * ring.now.degree ≤ length keys.now }
+    requires keys { first * ring.now.degree + length rows.now ≤ length keys.now }
     requires sum { length sum.old ≡ ring.now.degree }
     requires scratch { length scratch.old ≡ ring.now.degree }
-    ensures { sum.new ≡ gathered K.Kernel.reads ring.now count rows.now keys.now first }
+    ensures { sum.new ≡ gathered K.Kernel.reads ring.now (length rows.now / ring.now.degree) rows.now keys.now first }
 {
     sum.fill(0);
     let _ = kernel.turn(ring, sum, scratch);
-    fold_rows(kernel, ring, count, rows, keys, first, sum);
+    fold_rows(kernel, ring, rows, keys, first, sum);
     let _ = kernel.back(ring, sum, scratch);
 }

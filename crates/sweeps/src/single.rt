@@ -1,77 +1,20 @@
-ghost use Rattle.std.specs.Prelude.{◌≡◌, ℕ, ◌+◌, ◌*◌, ◌≤◌, length, replicate};
-ghost use Rattle.faults.specs.Least.{told};
-ghost use Rattle.kernels.specs.Lengths.{after};
-ghost use Rattle.kernels.specs.Polynomials.{InRing};
-ghost use Rattle.sweeps.specs.Layout.{numbers_of, work_long, key_end, polys_in};
-ghost use Rattle.sweeps.specs.Steps.{single_step, single_run, single_message};
+ghost use Rattle.std.specs.Prelude.{◌≡◌, ℕ};
 ghost use Rattle.set.specs.Noise.{single_noise};
+ghost use Rattle.sweeps.specs.Fit.{entries};
 ghost use Rattle.sweeps.specs.Meanings.{single_means, single_closed, constant_poly};
 ghost use Rattle.sweeps.specs.Small.{single_few};
-ghost use Rattle.sweeps.specs.Fit.{entries};
+ghost use Rattle.sweeps.specs.Steps.{single_steps, single_run, single_message};
+ghost use Rattle.sweeps.specs.Walks.{single_taking, single_parts, single_starts, single_goes, single_ends};
 
+use crate::external::Rows;
 use crate::sweep::Sweep;
-use crate::{external, lengths, messages, rotation};
+use crate::walk::Step;
+use crate::{external, lengths, messages, rotation, walk};
 use faults::fault::Fault;
 use kernels::kernel::Kernel;
-use kernels::remainders;
 use set::checked::Set;
 use set::steps::Steps;
 use set::within::Within;
-use words::guard::Wiped;
-
-// Step i, by the exponent e.
-fn step<K: Kernel>(
-    kernel: &K,
-    set: &Set,
-    acc: &mut [u32],
-    keys: &[u32],
-    i: usize,
-    e: u32,
-    work: &mut [u32],
-    scratch: &mut [u32],
-)
-    requires acc { InRing set.now.ring acc.old }
-    requires keys { key_end set.now i * set.now.within.numbers.degree ≤ length keys.now }
-    requires work { length work.old ≡ work_long set.now }
-    requires scratch { length scratch.old ≡ set.now.within.numbers.degree }
-    ensures value { (total : ℕ) → key_end set.now i ≤ total → acc.new ≡ single_step (numbers_of set.now) (polys_in K.Kernel.reads set.now total keys.now) i e acc.old }
-    ensures poly { InRing set.now.ring acc.new }
-{
-    let (rows, sum) = work.split_at_mut(external::key_words(set));
-    external::spread(kernel, set, acc, rows, sum, scratch);
-    rotation::add_taken(kernel, set, acc, rows, keys, i, e, sum, scratch);
-}
-
-// All steps, with rising i.
-fn steps<K: Kernel>(
-    kernel: &K,
-    set: &Set,
-    acc: &mut [u32],
-    exponents: &[u16],
-    keys: &[u32],
-    work: &mut [u32],
-    scratch: &mut [u32],
-)
-    requires acc { InRing set.now.ring acc.old }
-    requires exponents { length exponents.now ≡ set.now.within.numbers.dimension }
-    requires keys { length keys.now ≡ set.now.within.numbers.dimension * set.now.within.numbers.digits * set.now.within.numbers.degree }
-    requires work { length work.old ≡ work_long set.now }
-    requires scratch { length scratch.old ≡ set.now.within.numbers.degree }
-    ensures { acc.new ≡ single_run (numbers_of set.now) exponents.now (polys_in K.Kernel.reads set.now (set.now.within.numbers.dimension * set.now.within.numbers.digits) keys.now) acc.old }
-{
-    for i in 0..exponents.len() {
-        step(
-            kernel,
-            set,
-            acc,
-            keys,
-            i,
-            exponents[i] as u32,
-            work,
-            scratch,
-        );
-    }
-}
 
 // The sweep with one selector a step, whose message is an entry of the small secret.
 #[derive(Clone, Copy)]
@@ -111,9 +54,7 @@ impl Sweep for Single {
     }
 
     fn tell(within: &Within, secret: &[i32], index: usize, out: &mut [u32]) -> Result<(), Fault> {
-        if let Some(fault) = lengths::message_fault(within, secret.len(), out.len()) {
-            return Err(fault);
-        }
+        lengths::check_message(within, secret.len(), out.len())?;
         messages::write_constant(within, messages::entry(secret, index), out);
         Ok(())
     }
@@ -128,22 +69,62 @@ impl Sweep for Single {
         work: &mut [u32],
         scratch: &mut [u32],
     ) -> Result<(), Fault> {
-        let room = Wiped { words: work };
-        let spare = Wiped { words: scratch };
-        let count = set.dimension();
-        if let Some(fault) = lengths::sweep_fault(
+        walk::sweep::<Single, K>(
+            kernel,
             set,
-            count,
-            acc.len(),
-            exponents.len(),
-            keys.len(),
-            room.words.len(),
-            spare.words.len(),
-        ) {
-            return Err(fault);
-        }
-        remainders::reduce(set.ring(), acc);
-        steps(kernel, set, acc, exponents, keys, room.words, spare.words);
-        Ok(())
+            set.dimension(),
+            acc,
+            exponents,
+            keys,
+            work,
+            scratch,
+        )
+    }
+}
+
+impl Step for Single {
+    const EXPONENTS: usize = 1;
+
+    ghost EXPONENTS = { 1 };
+
+    ghost rounds = { λ w. w.numbers.dimension };
+
+    ghost count = { λ w. w.numbers.dimension };
+
+    ghost last = { λ i. i };
+
+    ghost stepped = { single_taking };
+
+    ghost walked = { single_steps };
+
+    ghost run = { single_run };
+
+    ghost parts = { single_parts };
+
+    ghost starts = { single_starts };
+
+    ghost goes = { single_goes };
+
+    ghost ends = { single_ends };
+
+    fn step<K: Kernel>(
+        kernel: &K,
+        set: &Set,
+        acc: &mut [u32],
+        exponents: &[u16],
+        keys: &[u32],
+        i: usize,
+        work: &mut [u32],
+        scratch: &mut [u32],
+    ) {
+        let (digits, sum) = work.split_at_mut(external::key_words(set));
+        external::spread(kernel, set, acc, digits, sum, scratch);
+        let rows = Rows {
+            kernel,
+            set,
+            digits,
+            keys,
+        };
+        rotation::add_taken(&rows, i, exponents[0] as u32, acc, sum, scratch);
     }
 }

@@ -32,9 +32,9 @@ returns g c =
     record { degree_short = omega arith; small_short = omega arith; dropped_short = omega arith; base_short = omega arith; switch_short = omega arith; radix_short = omega arith } in
     let w = c.in_ok-within.within in
     let e : w.numbers ≡ n = c.in_ok-within.ensures.made in
-    let v : c.noise_of.result ≡ g.S.Sweep.noise w = c.noise_of.ensures in
+    let v : c.stated-stated.result ≡ g.S.Sweep.noise w = c.stated-stated.ensures in
     let said = λ (stated : ℕ) (h : StatedFor g.S.Sweep.noise n stated).
-    c.checked.ensures.answer ∙ ap (λ (m : Numbers). rules_broken m c.noise_of.result) e ∙ ap (λ (x : ℕ). rules_broken n x) (v ∙ h w e)
+    c.checked.ensures.answer ∙ ap (λ (m : Numbers). rules_broken m c.stated-stated.result) e ∙ ap (λ (x : ℕ). rules_broken n x) (v ∙ h w e)
     ∙ sym (or_next (limits_broken n) (rules_broken n stated) (sym c.in_ok-within.ensures.answer)) in
     record {
       answer = said;

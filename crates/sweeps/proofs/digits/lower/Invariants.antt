@@ -5,5 +5,5 @@ use Rattle.sweeps.proofs.digits.lower.Given as goal
 
 abbrev pub invariant-loop-k : goal.invariant-loop-k
 invariant-loop-k l =
-    ((j : ℕ) → j < l.k → under (get_or l.rest j 0) ≡ lowered (2 ^ l.shift) (centred l.modulus (get_or l.acc j 0)))
-    × ((j : ℕ) → j < l.k → Held l.modulus (get_or l.rest j 0))
+    ((j : ℕ) → j < l.k → under (get_or l.rest j 0) ≡ lowered (2 ^ l.gadget.shift) (centred l.gadget.modulus.value (get_or l.acc j 0)))
+    × ((j : ℕ) → j < l.k → Held l.gadget.modulus.value (get_or l.rest j 0))

@@ -5,7 +5,7 @@ use Rattle.sweeps.proofs.digits.peel.Goals as goal
 pub returns : goal.returns
 returns c =
     record {
-      row = words_fill (length c.args.rest.now) c.args.modulus _ c.loop-k.row (omega arith) (λ j h. c.loop-k.invariant.0 j (omega arith));
+      row = words_fill (length c.args.rest.now) c.args.gadget.now.modulus.value _ c.loop-k.row (omega arith) (λ j h. c.loop-k.invariant.0 j (omega arith));
       rest = λ j h. c.loop-k.invariant.1 j (omega arith);
       held = λ j h. c.loop-k.invariant.2 j (omega arith);
     }

@@ -16,14 +16,14 @@ overflow_sub-result c =
     let x = c.args.x in
     let w = c.args.width in
     let l = low_is x c.half_of-half.result w c.requires.width.1 c.half_of-half.ensures.value in
-    let d = digit_close x w c.args.modulus c.requires.width.1 c.requires.width.0 c.requires.held in
+    let d = digit_close x w c.args.modulus.value c.requires.width.1 c.requires.width.0 c.requires.held in
     omega (arith, l, d.0, c.half_of-half.ensures.value)
 
 pub returns-then-low-half : goal.returns-then-low-half
 returns-then-low-half c =
     let x = c.args.x in
     let w = c.args.width in
-    let Q = c.args.modulus in
+    let Q = c.args.modulus.value in
     let h = c.half_of-half.ensures.value in
     let l = low_is x c.half_of-half.result w c.requires.width.1 h in
     let d = digit_close x w Q c.requires.width.1 c.requires.width.0 c.requires.held in
@@ -35,10 +35,10 @@ pub returns-else-low-half : goal.returns-else-low-half
 returns-else-low-half c =
     let x = c.args.x in
     let w = c.args.width in
-    let Q = c.args.modulus in
+    let Q = c.args.modulus.value in
     let h = c.half_of-half.ensures.value in
     let l = low_is x c.half_of-half.result w c.requires.width.1 h in
     let d = digit_close x w Q c.requires.width.1 c.requires.width.0 c.requires.held in
     let t : 2 ^ w / 2 ≤ (x + 2 ^ w / 2) % 2 ^ w = omega (arith, l, h, c.if-low-half.false) in
-    rw (l, h) (word_more Q ((x + 2 ^ w / 2) % 2 ^ w) (2 ^ w / 2) t (omega (arith, d.1, c.requires.some))
+    rw (l, h) (word_more Q ((x + 2 ^ w / 2) % 2 ^ w) (2 ^ w / 2) t (omega (arith, d.1, c.args.modulus.low))
     ∙ ap (λ (z : ℤ). word_of Q z) (sym (digit_value x w Q c.requires.width.1 c.requires.width.0 c.requires.held)))

@@ -1,4 +1,4 @@
-use Rattle.std.proofs.Common.{◌≡◌, ℕ, ◌+◌, ◌-◌, ◌*◌, ◌^◌, List, get_or, refl, ap, ◌∙◌, arith}
+use Rattle.std.proofs.Common.{◌≡◌, ℕ, ◌+◌, ◌-◌, ◌*◌, ◌^◌, List, get_or, refl, sym, ap, ◌∙◌, arith}
 use Rattle.algebra.specs.Digits.{digit}
 use Rattle.algebra.specs.Polys.{Poly}
 use Rattle.algebra.specs.Words.{words}
@@ -13,7 +13,9 @@ returns g c =
     let k = g.K.Kernel in
     let at = c.args.i * r.degree in
     let p : Poly = (λ k. digit (2 ^ c.args.gadget.now.width) (c.args.gadget.now.digits - c.args.i) (under (get_or c.args.rest.now k 0)) 0) in
-    let row : c.cut.new.row ≡ words r.degree r.modulus p = c.cut.ensures.row ∙ ap (λ (n : ℕ). words n r.modulus p) c.requires.rest in
+    let row : c.cut.new.row ≡ words r.degree r.modulus p =
+    c.cut.ensures.row ∙ ap (λ (n : ℕ). words n c.args.gadget.now.modulus.value p) c.requires.rest
+    ∙ ap (λ (n : ℕ). words r.degree n p) (sym c.requires.same) in
     let turned : c.turn.new.words ≡ k.form r (poly_of r c.cut.new.row) =
     after_two r c.turn.result _ _ c.turn.new.words _ _ c.turn.ensures.answer (omega arith) (omega arith) c.turn.ensures.words in
     let form : c.turn.new.words ≡ k.form r (words r.degree r.modulus p) =
@@ -22,5 +24,5 @@ returns g c =
     record {
       rows = rw (e, form) refl;
       rest = c.cut.ensures.rest;
-      held = c.cut.ensures.held;
+      held = λ k l. rw c.requires.same (c.cut.ensures.held k l);
     }

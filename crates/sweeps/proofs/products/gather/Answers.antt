@@ -12,7 +12,6 @@ fold_rows-requires g c =
     let turned : c.turn.new.words ≡ k.form r (poly_of r c.fill.new.self) =
     after_two r c.turn.result _ _ c.turn.new.words _ _ c.turn.ensures.answer (omega arith) (omega arith) c.turn.ensures.words in
     record {
-      rows = c.requires.rows;
       keys = c.requires.keys;
       sum = omega arith;
       zero = reads_turned g.met.K.Kernel.forms r (λ k. pos 0) c.turn.new.words (turned ∙ ap (k.form r) (poly_zeros r c.fill.new.self zeros));

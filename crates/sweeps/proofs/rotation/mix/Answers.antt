@@ -2,18 +2,18 @@ use Rattle.std.proofs.Common.{◌≡◌, ℕ, ◌+◌, ◌-◌, ◌%◌, ◌<◌
 use Rattle.algebra.proofs.Cong.{cong_refl}
 use Rattle.sweeps.proofs.Mixes.{mix_word, added_back}
 use Rattle.sweeps.proofs.rotation.mix.Goals as goal
-use Rattle.sweeps.proofs.rotation.mix.Goals.{then-back, else-back}
+use Rattle.sweeps.proofs.rotation.mix.Goals.{in-Plus, in-Minus}
 
 pub returns : goal.returns
 returns c =
-    let Q = c.args.modulus in
+    let Q = c.args.modulus.value in
     let a = c.args.a in
     let m = c.args.moved in
     let s = c.args.still in
     let some : 0 < Q = omega (arith, c.requires.one) in
-    let e : c.once-2.result ≡ ((a + c.if-back.added) % Q + (Q - s)) % Q =
+    let e : c.once-2.result ≡ ((a + c.match-sign.added) % Q + (Q - s)) % Q =
     c.once-2.ensures ∙ ap (λ (n : ℕ). (n + (Q - s)) % Q) c.once.ensures in
-    e ∙ elim c.if-back.branch [
-      | then-back w ↦ rw (w.if-back.true, w.added-is) (mix_word Q a m s (Q - m) true some c.requires.three (added_back Q m c.requires.two))
-      | else-back w ↦ rw (w.if-back.false, w.added-is) (mix_word Q a m s m false some c.requires.three (cong_refl Q (pos m)))
+    e ∙ elim c.match-sign.branch [
+      | in-Plus w ↦ rw (w.in-Plus.is, w.added-is) (mix_word Q a m s m false some c.requires.three (cong_refl Q (pos m)))
+      | in-Minus w ↦ rw (w.in-Minus.is, w.added-is) (mix_word Q a m s (Q - m) true some c.requires.three (added_back Q m c.requires.two))
     ]

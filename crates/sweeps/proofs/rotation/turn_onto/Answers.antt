@@ -14,11 +14,11 @@ returns c =
     let sum = c.args.sum.now in
     let acc = c.args.acc.now in
     let long : length acc ≡ n.degree = c.requires.acc.0 ∙ s.same.0 in
-    let whole : c.ring.result.now.modulus ≡ n.modulus = ap (λ r. r.modulus) c.ring.ensures ∙ s.same.1 in
+    let whole : c.gadget.result.now.modulus.value ≡ n.modulus = ap (λ t. t.modulus.value) c.gadget.ensures ∙ s.digits.0 in
     let t = c.turn_of.result in
     let made : c.mix_turned.new.acc ≡ words n.degree n.modulus (stepped n.degree (turns n c.args.e) (coeffs sum) (coeffs acc)) =
     c.mix_turned.ensures
-    ∙ ap (λ (N : ℕ). words N c.ring.result.now.modulus (stepped N t (coeffs sum) (coeffs acc))) long
+    ∙ ap (λ (N : ℕ). words N c.gadget.result.now.modulus.value (stepped N t (coeffs sum) (coeffs acc))) long
     ∙ ap (λ (Q : ℕ). words n.degree Q (stepped n.degree t (coeffs sum) (coeffs acc))) whole
     ∙ stepped_agree n.degree n.modulus t (turns n c.args.e) (coeffs sum) (coeffs acc)
     (ap (λ (m : ℕ). m % (n.degree + n.degree)) c.turn_of.ensures.value ∙ mod-mod (turns n c.args.e) (n.degree + n.degree)) in

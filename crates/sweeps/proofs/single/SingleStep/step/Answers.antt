@@ -1,5 +1,5 @@
 use Rattle.sweeps.specs.Steps.{single_step}
-use Rattle.sweeps.proofs.single.step.Goals as goal
+use Rattle.sweeps.proofs.single.SingleStep.step.Goals as goal
 
 pub returns : goal.returns
 unfolding single_step
