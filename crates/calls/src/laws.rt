@@ -1,8 +1,8 @@
-ghost use Rattle.runs.specs.Followed.{PlainFollows};
-ghost use Rattle.runs.specs.Held.{BitsHeld};
-ghost use Rattle.runs.specs.Lists.{EveryList};
-ghost use Rattle.runs.specs.Orders.{OrdersAreCalls};
-ghost use Rattle.runs.specs.Shapes.{WordsDecideNothing};
+ghost use Rattle.calls.specs.Alike.{WordsDecideNothing};
+ghost use Rattle.calls.specs.Both.{AllOrdersAreCalls};
+ghost use Rattle.calls.specs.Followed.{PlainFollows};
+ghost use Rattle.calls.specs.Held.{BitsHeld};
+ghost use Rattle.calls.specs.Lists.{EveryList};
 
 // The machine of plain bits answers every call as the file does, and the same registers stay filled.
 pub fn plain_follows() -> u8
@@ -34,7 +34,7 @@ pub fn lists_are_right() -> u8
 
 // A list of orders does what its orders do as single calls, up to the first that is refused.
 pub fn orders_are_calls() -> u8
-    ensures { OrdersAreCalls }
+    ensures { AllOrdersAreCalls }
 {
     0
 }
