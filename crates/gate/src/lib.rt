@@ -5,6 +5,7 @@ mod beginning;
 pub mod bootstrap;
 pub mod in_place;
 pub mod inverse;
+pub mod keys;
 pub mod laws;
 mod lengths;
 pub mod letter;
