@@ -1,7 +1,7 @@
 -- The machine of plain bits answers each call as the file does, and goes on alike.
-use Rattle.std.proofs.Common.{◌≡◌, ℕ, zero, suc, ◌+◌, ◌*◌, ◌<◌, Bool, true, false, not, eqb, List, [], ◌∷◌, map, length, get_or, set, replicate, is_some, Some, None, Option, sym, refl, ap, ◌∙◌, inl, inr, add-zero, arith}
+use Rattle.std.proofs.Common.{◌≡◌, ℕ, zero, suc, ◌+◌, ◌*◌, ◌<◌, min, Bool, true, false, not, eqb, List, [], ◌∷◌, map, length, get_or, set, replicate, is_some, Some, None, Option, sym, refl, ap, ◌∙◌, inl, inr, add-zero, arith}
 use Rattle.std.proofs.lemmas.List.{length-replicate, length-set, map-set}
-use Rattle.std.proofs.lemmas.Bool.{eq-eqb}
+use Rattle.std.proofs.lemmas.Bool.{cases_lt, eq-eqb, ne_eqb}
 use Rattle.faults.specs.declared.fault.Fault.{Fault}
 use Rattle.faults.specs.declared.fault.Fault.TheVariants.{Length}
 use Rattle.faults.specs.declared.fault.Layer.{Layer}
@@ -18,18 +18,14 @@ use Rattle.registers.specs.Registers.{wide, row_at, remainders, opposite}
 use Rattle.registers.specs.Marks.{State}
 use Rattle.registers.specs.Steps.{Gates, either, bad_memory, bad_length, bad_registers, gate_lists, fresh, written, done_place, refuse_place, next_place, refuse_read, named, used, done_op, refuse_op}
 use Rattle.registers.proofs.Accepted.{Ready, place_accepted, op_accepted, gate_accepted}
-use Rattle.registers.proofs.Memory.{row_fits, put_long}
+use Rattle.registers.proofs.Memory.{row_fits, row_long, put_long}
 use Rattle.registers.proofs.Opposite.{opposite_long, remainders_long}
 use Rattle.calls.specs.declared.call.Lent.{Lent}
-use Rattle.calls.specs.Plain.{Entries, the_bit, first_row, row7, row10, row11, row12, handed, plain_place, plain_read, plain_op, plain_call, plain_lists, entered, unless_refused}
+use Rattle.calls.specs.Plain.{Entries, the_bit, first_row, row7, row10, row11, row12, handed, plain_place, plain_read, plain_op, plain_call, plain_lists, entered, unless_refused, bits_place, bits_op}
 use Rattle.calls.specs.Calls.{lent_lists, refuse_by, bad_list, bad_keys, bad_work, refuse_orders}
+use Rattle.calls.specs.Gated.{OnGate, LongGate}
+use Rattle.calls.specs.Followed.{Tracks, next_op, PlainFollows}
 use Rattle.calls.proofs.Lowest.{row10_same, row11_same, row12_same}
-
--- there are R entries, the same registers are filled, and register memory has its length
-pub record Tracks (m : Numbers) (s : State) (bits : Entries) : Type 0 where
-  pub whole : length s.words ≡ s.count * wide m
-  pub entries : length bits ≡ s.count
-  pub same : s.marks ≡ map (is_some {T = Bool}) bits
 
 -- rows in order
 rows1 : (a : Option Fault) → first_row (a ∷ []) ≡ a
@@ -157,27 +153,35 @@ module _ (m : Numbers) (s : State) (bits : Entries) (t : Tracks m s bits) where
         same = ap (λ (l : List Bool). set l z true) t.same ∙ sym (map-set (is_some {T = Bool}) bits z (Some bit));
       }
 
-  pub placed : (z : ℕ) (ws : List ℕ) (bit : Bool)
-      → Tracks m (next_place m s z ws) (unless_refused (plain_place (wide m) m.small s.count z ws) bits (set bits z (Some bit)))
+  pub placed : (z : ℕ) (ws : List ℕ) (bit : Bool) → Tracks m (next_place m s z ws) (bits_place (wide m) m.small s.count bits z ws bit)
   placed z ws bit =
       either_way (done_place m s z ws) (set bits z (Some bit)) (refuse_place m s z ws) (plain_place (wide m) m.small s.count z ws) (places z ws)
       (λ e. (let a = place_accepted m s z ws e in put_on z ws bit (a.ready.low z (inl refl)) a.long))
 
-  pub done : (gates : Gates) → ((l : Letter) (xs ys : List ℕ) → length (gates l xs ys) ≡ wide m) → (op : Op) → Ready m s (named op) (used op)
-      → Tracks m (done_op gates m s op) (entered bits op)
-  done gates long (Gate l x y z) a =
+  -- a register has n + 1 words
+  pub long_row : (x : ℕ) → x < s.count → length (row_at (wide m) x s.words) ≡ wide m
+  long_row x low = row_long (wide m) s.words x (row_fits x (wide m) (wide m) s.count (length s.words) refl t.whole low)
+
+  pub done : (gates : Gates) (op : Op) → OnGate (LongGate gates m) op → Ready m s (named op) (used op) → Tracks m (done_op gates m s op) (entered bits op)
+  done gates (Gate l x y z) long a =
       put_on z (gates l (row_at (wide m) x s.words) (row_at (wide m) y s.words)) (bit_of l (the_bit (get_or bits x None)) (the_bit (get_or bits y None)))
-      (a.low z (inr (inr (inl refl)))) (long l (row_at (wide m) x s.words) (row_at (wide m) y s.words))
-  done gates long (Invert x z) a =
+      (a.low z (inr (inr (inl refl))))
+      (long (row_at (wide m) x s.words) (row_at (wide m) y s.words) (long_row x (a.low x (inl refl))) (long_row y (a.low y (inr (inl refl)))))
+  done gates (Invert x z) long a =
       put_on z (opposite m (row_at (wide m) x s.words)) (not (the_bit (get_or bits x None))) (a.low z (inr (inl refl))) (opposite_long m (row_at (wide m) x s.words))
-  done gates long (Copy x z) a =
+  done gates (Copy x z) long a =
       put_on z (remainders m (row_at (wide m) x s.words)) (the_bit (get_or bits x None)) (a.low z (inr (inl refl))) (remainders_long m (row_at (wide m) x s.words))
-  done gates long (Clear z) a =
+  done gates (Clear z) long a =
       record {
         whole = t.whole;
         entries = length-set bits z None ∙ t.entries;
         same = ap (λ (l : List Bool). set l z false) t.same ∙ sym (map-set (is_some {T = Bool}) bits z None);
       }
+
+  operated : (gates : Gates) (op : Op) → OnGate (LongGate gates m) op → Tracks m (next_op gates m s op) (bits_op s.count bits op)
+  operated gates op long =
+      either_way (done_op gates m s op) (entered bits op) (refuse_op m s op) (plain_op s.count bits op) (operates op)
+      (λ e. done gates op long (op_accepted m s op e))
 
 -- what an operation that is not refused counts on
 pub ready_by : (m : Numbers) (count : ℕ) (lists : Lists) (s : State) (op : Op) → refuse_by m count lists s op ≡ None → Ready m s (named op) (used op)
@@ -199,3 +203,28 @@ no_marks (suc n) = ap (λ (l : List Bool). false ∷ l) (no_marks n)
 
 pub begins : (m : Numbers) (R : ℕ) → Tracks m (fresh m R) (replicate R None)
 begins m R = record { whole = length-replicate (R * wide m) 0; entries = length-replicate R None; same = no_marks R }
+
+-- a length that is cut to w + 1 is w no more often
+cut_same : (have w : ℕ) → eqb (min have (w + 1)) w ≡ eqb have w
+cut_same have w = elim (cases_lt w have) [
+  | inl h ↦ ne_eqb (min have (w + 1)) w (λ e. omega arith) ∙ sym (ne_eqb have w (λ e. omega arith))
+  | inr h ↦ (let e : min have (w + 1) ≡ have = omega arith in ap (λ (k : ℕ). eqb k w) e)
+]
+
+cut : (m : Numbers) (s : State) (x have : ℕ) → refuse_read m s x (min have (wide m + 1)) ≡ refuse_read m s x have
+cut m s x have =
+    ap (λ (b : Bool). or_else (unless b (Length 0 File)) (or_else (bad_memory 1 m s) (bad_registers s (x ∷ []) (x ∷ [])))) (cut_same have (wide m))
+
+pub plain_follows : PlainFollows
+plain_follows =
+    record {
+      begins = begins;
+      places = places;
+      placed = placed;
+      reads = reads;
+      operates = operates;
+      operated = λ gates m s bits t op long. operated m s bits t gates op long;
+      cut = cut;
+      calls = calls;
+      orders = order_lists;
+    }

@@ -3,7 +3,9 @@ pub mod Followed
 pub mod Held
 pub mod Ordering
 pub mod Blind
+pub mod Goes
 pub mod Follow
+pub mod Every
 pub mod Steps
 pub mod Turns
 pub mod Lending

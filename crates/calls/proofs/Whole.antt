@@ -10,8 +10,10 @@ use Rattle.registers.specs.Registers.{numbers_of}
 use Rattle.calls.specs.Calls.{Asked}
 use Rattle.calls.specs.Runs.{Outcome, run_of}
 use Rattle.calls.specs.Promise.{gates_of, FollowsBits, Promise}
+use Rattle.calls.specs.Gated.{LongGate}
 use Rattle.calls.proofs.Follow.{follows, gates_right}
-use Rattle.calls.proofs.Blind.{words_decide_nothing_lem}
+use Rattle.calls.proofs.Blind.{same_shapes}
+use Rattle.calls.proofs.Goes.{each_call}
 
 pub promised : (defined : Numbers → List ℕ → List (List ℕ) → List ℕ → List ℕ) (noise count : Within → ℕ) (message : Within → List ℤ → ℕ → List ℕ)
     → Means defined noise count message → (set : Set) (start keys : List (List ℕ)) (rows : List ℕ)
@@ -28,7 +30,7 @@ promised defined noise count message means set start keys rows long polys R call
           (follows (gates_of defined (numbers_of set) start keys rows) set.within (count set.within) R s
           (gates_right defined noise count message means set start keys rows long polys f s stated fit) fit.sweeps.small calls quiet);
       words_decide_nothing = λ others h.
-          sym (words_decide_nothing_lem (gates_of defined (numbers_of set) start keys rows) (numbers_of set) (count set.within)
-          (λ l xs ys. gate_long defined (numbers_of set) l start keys rows xs ys) R calls others h)
+          sym (same_shapes (gates_of defined (numbers_of set) start keys rows) (numbers_of set) (count set.within) R calls others
+          (each_call (LongGate (gates_of defined (numbers_of set) start keys rows) (numbers_of set)) (λ l xs ys a b. gate_long defined (numbers_of set) l start keys rows xs ys) calls) h)
           ∙ ap (λ (v : Outcome). v.answers) (sym e);
     }

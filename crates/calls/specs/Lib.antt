@@ -4,3 +4,9 @@ pub mod Plain
 pub mod Calls
 pub mod Runs
 pub mod Promise
+pub mod Gated
+pub mod Followed
+pub mod Held
+pub mod Alike
+pub mod Lists
+pub mod Both

@@ -112,3 +112,10 @@ plain_lists m lent =
 abbrev pub unless_refused : {A : Type 0} → Option Fault → A → A → A
 unless_refused (Some f) old new = old
 unless_refused None old new = new
+
+-- what is there after a placing, with the bit that its words are said to hold, and after an operation on register memory alone
+abbrev pub bits_place : ℕ → ℕ → ℕ → Entries → ℕ → List ℕ → Bool → Entries
+bits_place w q R bits z ws bit = unless_refused (plain_place w q R z ws) bits (slice_set bits z (Some bit))
+
+abbrev pub bits_op : ℕ → Entries → Op → Entries
+bits_op R bits op = unless_refused (plain_op R bits op) bits (entered bits op)

@@ -1,5 +1,5 @@
 -- Runs of lists of calls: on the register file, and on the machine of plain bits.
-use Rattle.std.specs.Prelude.{◌≡◌, ℕ, ◌+◌, ◌*◌, ◌≤◌, min, Bool, ◌&&◌, ◌⊎◌, List, [], ◌∷◌, ◌++◌, Some, Option, ◌≢◌, nat_le, slice_set}
+use Rattle.std.specs.Prelude.{◌≡◌, ℕ, ◌+◌, ◌*◌, ◌≤◌, min, Bool, ◌&&◌, ◌⊎◌, List, [], ◌∷◌, ◌++◌, Option, ◌≢◌, nat_le}
 use Rattle.faults.specs.declared.fault.Fault.{Fault}
 use Rattle.faults.specs.declared.fault.Fault.TheVariants.{Length, Register}
 use Rattle.faults.specs.declared.fault.Layer.TheVariants.{Runs}
@@ -14,7 +14,7 @@ use Rattle.registers.specs.Steps.{Gates, fresh}
 use Rattle.calls.specs.declared.answer.Answer.{Answer}
 use Rattle.calls.specs.Answers.{verdict}
 use Rattle.calls.specs.Orders.{parsed, ordered}
-use Rattle.calls.specs.Plain.{Entries, handed, plain_place, plain_read, plain_op, plain_call, plain_lists, entered, unless_refused}
+use Rattle.calls.specs.Plain.{Entries, handed, plain_place, plain_read, plain_op, plain_call, plain_lists, entered, unless_refused, bits_place}
 use Rattle.calls.specs.Calls.{Asked, placing, reading, doing, ordering, bad_list, bad_keys, bad_work, stopped, answer, next, slot}
 
 -- what a run gives: an answer and a slot of read words for each call, the marks and the register words at its end
@@ -93,7 +93,7 @@ module _ (bit_of : List ℕ → Bool) (m : Numbers) (R : ℕ) where
       stopped (plain_lists m (handed m lent)) (ordered Entries (plain_op R) entered 0 bits (parsed bytes))
 
   abbrev pub plain_next : Entries → Asked → Entries
-  plain_next bits (placing z ws) = unless_refused (plain_place (wide m) m.small R z ws) bits (slice_set bits z (Some (bit_of ws)))
+  plain_next bits (placing z ws) = bits_place (wide m) m.small R bits z ws (bit_of ws)
   plain_next bits (reading x have) = bits
   plain_next bits (doing o lent) = unless_refused (plain_call m R (handed m lent) bits o) bits (entered bits o)
   plain_next bits (ordering bytes lent) =

@@ -5,6 +5,7 @@ mod act;
 pub mod answer;
 pub mod call;
 mod checks;
+pub mod laws;
 mod lend;
 pub mod order;
 pub mod orders;

@@ -105,7 +105,7 @@ fn begin<K: Kernel + Drop, S: Sweep + Drop>(
     ) {
         return Err(fault);
     }
-    let mut file = File::new(engine, count, regs)?;
+    let mut file = File::new(engine.set(), count, regs)?;
     each(
         engine, &mut file, calls, got, reads, start, selectors, rows, regs, small, work, scratch,
     );
