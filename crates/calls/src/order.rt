@@ -1,7 +1,7 @@
 ghost use Rattle.std.specs.Prelude.{◌≡◌};
 ghost use Rattle.calls.specs.Orders.{other_order, order_of};
 
-use gate::letter::letter_of;
+use gate::letter::Letter;
 use registers::op::Op;
 
 // An order that is no gate: unused numbers are 0.
@@ -38,13 +38,13 @@ fn other_order(letter: char, x: u8, y: u8, z: u8) -> Option<Op>
 pub fn order_of(letter: u8, x: u8, y: u8, z: u8) -> Option<Op>
     ensures { result ≡ order_of letter x y z }
 {
-    match letter_of(letter as char) {
-        Some(gate) => Some(Op::Gate {
+    match Letter::try_from(letter as char) {
+        Ok(gate) => Some(Op::Gate {
             letter: gate,
             x: x as u32,
             y: y as u32,
             z: z as u32,
         }),
-        None => other_order(letter as char, x, y, z),
+        Err(_) => other_order(letter as char, x, y, z),
     }
 }

@@ -8,7 +8,7 @@ pub mod Sets
 pub mod Lists
 pub mod Holding
 pub mod Rotated
-pub mod Keys
+pub mod KeyRows
 pub mod Reach
 pub mod Opposite
 pub mod Phases

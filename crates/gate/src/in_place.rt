@@ -7,6 +7,7 @@ ghost use Rattle.gate.specs.Stages.{combined_of, inverted_of};
 ghost use Rattle.gate.specs.Gates.{gate_of, gate_at_refused, GateHolds, invert_at_refused, InvertHolds, register_at, with_register};
 
 use crate::guard::WipedSmall;
+use crate::keys::Keys;
 use crate::lengths::{gate_at_fault, invert_at_fault, words_of};
 use crate::letter::Letter;
 use crate::refresh::refresh;
@@ -61,25 +62,23 @@ fn gate_at_right<K: Kernel, S: Sweep>(
     x: usize,
     y: usize,
     z: usize,
-    start: &[u32],
-    selectors: &[u32],
-    rows: &[u32],
+    keys: Keys<'_>,
     registers: &mut [u16],
     small: &mut [u16],
     work: &mut [u32],
     scratch: &mut [u32],
 )
-    requires start { length start.now ≡ start_length set.now.within.numbers }
-    requires selectors { length selectors.now ≡ selectors_length set.now.within.numbers (S.Sweep.count set.now.within) }
-    requires rows { length rows.now ≡ rows_length set.now.within.numbers }
+    requires start { length keys.start.now ≡ start_length set.now.within.numbers }
+    requires selectors { length keys.selectors.now ≡ selectors_length set.now.within.numbers (S.Sweep.count set.now.within) }
+    requires rows { length keys.rows.now ≡ rows_length set.now.within.numbers }
     requires x { x * words_of set.now.within.numbers + words_of set.now.within.numbers ≤ length registers.old }
     requires y { y * words_of set.now.within.numbers + words_of set.now.within.numbers ≤ length registers.old }
     requires z { z * words_of set.now.within.numbers + words_of set.now.within.numbers ≤ length registers.old }
     requires small { length small.old ≡ words_of set.now.within.numbers }
     requires work { length work.old ≡ gate_work set.now.within.numbers }
     requires scratch { length scratch.old ≡ set.now.within.numbers.degree }
-    ensures words { registers.new ≡ with_register set.now.within.numbers registers.old z (gate_of S.Sweep.defined set.now.within.numbers letter (start_of K.Kernel.reads set.now start.now) (selectors_of K.Kernel.reads S.Sweep.count set.now selectors.now) rows.now (register_at set.now.within.numbers registers.old x) (register_at set.now.within.numbers registers.old y)) }
-    ensures holds { GateHolds S.Sweep.noise S.Sweep.count S.Sweep.message set.now letter (start_of K.Kernel.reads set.now start.now) (selectors_of K.Kernel.reads S.Sweep.count set.now selectors.now) rows.now (register_at set.now.within.numbers registers.old x) (register_at set.now.within.numbers registers.old y) (register_at set.now.within.numbers registers.new z) }
+    ensures words { registers.new ≡ with_register set.now.within.numbers registers.old z (gate_of S.Sweep.defined set.now.within.numbers letter (start_of K.Kernel.reads set.now keys.entry.start.now) (selectors_of K.Kernel.reads S.Sweep.count set.now keys.entry.selectors.now) keys.entry.rows.now (register_at set.now.within.numbers registers.old x) (register_at set.now.within.numbers registers.old y)) }
+    ensures holds { GateHolds S.Sweep.noise S.Sweep.count S.Sweep.message set.now letter (start_of K.Kernel.reads set.now keys.entry.start.now) (selectors_of K.Kernel.reads S.Sweep.count set.now keys.entry.selectors.now) keys.entry.rows.now (register_at set.now.within.numbers registers.old x) (register_at set.now.within.numbers registers.old y) (register_at set.now.within.numbers registers.new z) }
 {
     let words = words_of(set);
     let combined = combine_at(set, letter, x, y, registers, small);
@@ -89,9 +88,7 @@ fn gate_at_right<K: Kernel, S: Sweep>(
         set,
         small,
         &mut registers[z * words..z * words + words],
-        start,
-        selectors,
-        rows,
+        keys,
         work,
         scratch,
         combined,
@@ -107,17 +104,15 @@ pub fn gate_at<K: Kernel, S: Sweep>(
     x: u32,
     y: u32,
     z: u32,
-    start: &[u32],
-    selectors: &[u32],
-    rows: &[u32],
+    keys: Keys<'_>,
     registers: &mut [u16],
     small: &mut [u16],
     work: &mut [u32],
     scratch: &mut [u32],
 ) -> Result<(), Fault>
-    ensures answer { result ≡ told (gate_at_refused set.now.within.numbers (S.Sweep.count set.now.within) x y z (length start.now) (length selectors.now) (length rows.now) (length registers.old) (length small.old) (length work.old) (length scratch.old)) }
-    ensures words { registers.new ≡ after result (with_register set.now.within.numbers registers.old z (gate_of S.Sweep.defined set.now.within.numbers letter (start_of K.Kernel.reads set.now start.now) (selectors_of K.Kernel.reads S.Sweep.count set.now selectors.now) rows.now (register_at set.now.within.numbers registers.old x) (register_at set.now.within.numbers registers.old y))) registers.old }
-    ensures holds { OnOk result (GateHolds S.Sweep.noise S.Sweep.count S.Sweep.message set.now letter (start_of K.Kernel.reads set.now start.now) (selectors_of K.Kernel.reads S.Sweep.count set.now selectors.now) rows.now (register_at set.now.within.numbers registers.old x) (register_at set.now.within.numbers registers.old y) (register_at set.now.within.numbers registers.new z)) }
+    ensures answer { result ≡ told (gate_at_refused set.now.within.numbers (S.Sweep.count set.now.within) x y z (length keys.entry.start.now) (length keys.entry.selectors.now) (length keys.entry.rows.now) (length registers.old) (length small.old) (length work.old) (length scratch.old)) }
+    ensures words { registers.new ≡ after result (with_register set.now.within.numbers registers.old z (gate_of S.Sweep.defined set.now.within.numbers letter (start_of K.Kernel.reads set.now keys.entry.start.now) (selectors_of K.Kernel.reads S.Sweep.count set.now keys.entry.selectors.now) keys.entry.rows.now (register_at set.now.within.numbers registers.old x) (register_at set.now.within.numbers registers.old y))) registers.old }
+    ensures holds { OnOk result (GateHolds S.Sweep.noise S.Sweep.count S.Sweep.message set.now letter (start_of K.Kernel.reads set.now keys.entry.start.now) (selectors_of K.Kernel.reads S.Sweep.count set.now keys.entry.selectors.now) keys.entry.rows.now (register_at set.now.within.numbers registers.old x) (register_at set.now.within.numbers registers.old y) (register_at set.now.within.numbers registers.new z)) }
     ensures small { small.new ≡ replicate (length small.old) 0 }
     ensures work { work.new ≡ replicate (length work.old) 0 }
     ensures scratch { scratch.new ≡ replicate (length scratch.old) 0 }
@@ -131,9 +126,9 @@ pub fn gate_at<K: Kernel, S: Sweep>(
         x,
         y,
         z,
-        start.len(),
-        selectors.len(),
-        rows.len(),
+        keys.start.len(),
+        keys.selectors.len(),
+        keys.rows.len(),
         registers.len(),
         little.words.len(),
         room.words.len(),
@@ -149,9 +144,7 @@ pub fn gate_at<K: Kernel, S: Sweep>(
         x as usize,
         y as usize,
         z as usize,
-        start,
-        selectors,
-        rows,
+        keys,
         registers,
         little.words,
         room.words,

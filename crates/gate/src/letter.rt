@@ -1,4 +1,5 @@
 ghost use Rattle.std.specs.Prelude.{◌≡◌, ℕ, ◌≤◌};
+ghost use Rattle.std.specs.Option.{ok_or};
 ghost use Rattle.gate.specs.Letters.{letter_of, offset_of, times_of, bit_of, BitsRight};
 
 // The gate to compute.
@@ -12,18 +13,26 @@ pub enum Letter {
     Xnor,
 }
 
+// A character that names no gate.
+#[derive(Clone, Copy, PartialEq, Eq, Debug)]
+pub struct NotALetter(pub char);
+
 // The gate of a letter, where it is one of the six.
-pub fn letter_of(letter: char) -> Option<Letter>
-    ensures { result ≡ letter_of letter }
-{
-    match letter {
-        'N' => Some(Letter::Nand),
-        'A' => Some(Letter::And),
-        'O' => Some(Letter::Or),
-        'R' => Some(Letter::Nor),
-        'X' => Some(Letter::Xor),
-        'E' => Some(Letter::Xnor),
-        _ => None,
+impl TryFrom<char> for Letter {
+    type Error = NotALetter;
+
+    ghost try_from_gives = { λ c r. r ≡ ok_or (letter_of c) (record { 0 = c }) };
+
+    fn try_from(letter: char) -> Result<Self, NotALetter> {
+        match letter {
+            'N' => Ok(Letter::Nand),
+            'A' => Ok(Letter::And),
+            'O' => Ok(Letter::Or),
+            'R' => Ok(Letter::Nor),
+            'X' => Ok(Letter::Xor),
+            'E' => Ok(Letter::Xnor),
+            _ => Err(NotALetter(letter)),
+        }
     }
 }
 

@@ -6,6 +6,7 @@ pub mod bootstrap;
 mod guard;
 pub mod in_place;
 pub mod inverse;
+pub mod keys;
 pub mod laws;
 mod lengths;
 pub mod letter;

@@ -3,6 +3,7 @@ ghost use Rattle.gate.specs.Keys.{start_of, selectors_of};
 ghost use Rattle.gate.specs.Lengths.{words_of, sample_of, start_length, selectors_length, rows_length, sweep_work, gate_work};
 ghost use Rattle.gate.specs.Gates.{rotated_of, settled_of};
 
+use crate::keys::Keys;
 use crate::lengths::{sample_of, sweep_work};
 use crate::stages::extract::extract_right;
 use crate::stages::finish::finish_right;
@@ -22,23 +23,30 @@ fn rotate<K: Kernel, S: Sweep>(
     set: &Set,
     combined: &mut [u16],
     acc: &mut [u32],
-    start: &[u32],
-    selectors: &[u32],
+    keys: Keys<'_>,
     room: &mut [u32],
     scratch: &mut [u32],
     token: Combined,
 ) -> Swept
     requires combined { length combined.old ≡ words_of set.now.within.numbers }
     requires acc { length acc.old ≡ set.now.within.numbers.degree }
-    requires start { length start.now ≡ start_length set.now.within.numbers }
-    requires selectors { length selectors.now ≡ selectors_length set.now.within.numbers (S.Sweep.count set.now.within) }
+    requires start { length keys.start.now ≡ start_length set.now.within.numbers }
+    requires selectors { length keys.selectors.now ≡ selectors_length set.now.within.numbers (S.Sweep.count set.now.within) }
     requires room { length room.old ≡ sweep_work set.now.within.numbers }
     requires scratch { length scratch.old ≡ set.now.within.numbers.degree }
-    ensures { acc.new ≡ rotated_of S.Sweep.defined set.now.within.numbers (start_of K.Kernel.reads set.now start.now) (selectors_of K.Kernel.reads S.Sweep.count set.now selectors.now) combined.old }
+    ensures { acc.new ≡ rotated_of S.Sweep.defined set.now.within.numbers (start_of K.Kernel.reads set.now keys.entry.start.now) (selectors_of K.Kernel.reads S.Sweep.count set.now keys.entry.selectors.now) combined.old }
 {
-    let started = start_right(kernel, set, combined, acc, start, room, scratch, token);
+    let started = start_right(kernel, set, combined, acc, keys.start, room, scratch, token);
     sweep_right(
-        kernel, sweep, set, combined, acc, selectors, room, scratch, started,
+        kernel,
+        sweep,
+        set,
+        combined,
+        acc,
+        keys.selectors,
+        room,
+        scratch,
+        started,
     )
 }
 
@@ -86,9 +94,7 @@ fn refresh_in<K: Kernel, S: Sweep>(
     set: &Set,
     combined: &mut [u16],
     out: &mut [u16],
-    start: &[u32],
-    selectors: &[u32],
-    rows: &[u32],
+    keys: Keys<'_>,
     room: &mut [u32],
     rest: &mut [u32],
     scratch: &mut [u32],
@@ -96,19 +102,19 @@ fn refresh_in<K: Kernel, S: Sweep>(
 )
     requires combined { length combined.old ≡ words_of set.now.within.numbers }
     requires out { length out.old ≡ words_of set.now.within.numbers }
-    requires start { length start.now ≡ start_length set.now.within.numbers }
-    requires selectors { length selectors.now ≡ selectors_length set.now.within.numbers (S.Sweep.count set.now.within) }
-    requires rows { length rows.now ≡ rows_length set.now.within.numbers }
+    requires start { length keys.start.now ≡ start_length set.now.within.numbers }
+    requires selectors { length keys.selectors.now ≡ selectors_length set.now.within.numbers (S.Sweep.count set.now.within) }
+    requires rows { length keys.rows.now ≡ rows_length set.now.within.numbers }
     requires room { length room.old ≡ sweep_work set.now.within.numbers }
     requires rest { length rest.old ≡ set.now.within.numbers.degree + sample_of set.now.within.numbers + sample_of set.now.within.numbers + words_of set.now.within.numbers }
     requires scratch { length scratch.old ≡ set.now.within.numbers.degree }
-    ensures { out.new ≡ settled_of set.now.within.numbers rows.now (rotated_of S.Sweep.defined set.now.within.numbers (start_of K.Kernel.reads set.now start.now) (selectors_of K.Kernel.reads S.Sweep.count set.now selectors.now) combined.old) }
+    ensures { out.new ≡ settled_of set.now.within.numbers keys.entry.rows.now (rotated_of S.Sweep.defined set.now.within.numbers (start_of K.Kernel.reads set.now keys.entry.start.now) (selectors_of K.Kernel.reads S.Sweep.count set.now keys.entry.selectors.now) combined.old) }
 {
     let (acc, others) = rest.split_at_mut(set.degree());
     let swept = rotate(
-        kernel, sweep, set, combined, acc, start, selectors, room, scratch, token,
+        kernel, sweep, set, combined, acc, keys, room, scratch, token,
     );
-    settle(set, acc, others, rows, out, swept);
+    settle(set, acc, others, keys.rows, out, swept);
 }
 
 // The stages after the first: combined words are refreshed.
@@ -118,24 +124,22 @@ pub fn refresh<K: Kernel, S: Sweep>(
     set: &Set,
     combined: &mut [u16],
     out: &mut [u16],
-    start: &[u32],
-    selectors: &[u32],
-    rows: &[u32],
+    keys: Keys<'_>,
     work: &mut [u32],
     scratch: &mut [u32],
     token: Combined,
 )
     requires combined { length combined.old ≡ words_of set.now.within.numbers }
     requires out { length out.old ≡ words_of set.now.within.numbers }
-    requires start { length start.now ≡ start_length set.now.within.numbers }
-    requires selectors { length selectors.now ≡ selectors_length set.now.within.numbers (S.Sweep.count set.now.within) }
-    requires rows { length rows.now ≡ rows_length set.now.within.numbers }
+    requires start { length keys.start.now ≡ start_length set.now.within.numbers }
+    requires selectors { length keys.selectors.now ≡ selectors_length set.now.within.numbers (S.Sweep.count set.now.within) }
+    requires rows { length keys.rows.now ≡ rows_length set.now.within.numbers }
     requires work { length work.old ≡ gate_work set.now.within.numbers }
     requires scratch { length scratch.old ≡ set.now.within.numbers.degree }
-    ensures { out.new ≡ settled_of set.now.within.numbers rows.now (rotated_of S.Sweep.defined set.now.within.numbers (start_of K.Kernel.reads set.now start.now) (selectors_of K.Kernel.reads S.Sweep.count set.now selectors.now) combined.old) }
+    ensures { out.new ≡ settled_of set.now.within.numbers keys.entry.rows.now (rotated_of S.Sweep.defined set.now.within.numbers (start_of K.Kernel.reads set.now keys.entry.start.now) (selectors_of K.Kernel.reads S.Sweep.count set.now keys.entry.selectors.now) combined.old) }
 {
     let (room, rest) = work.split_at_mut(sweep_work(set));
     refresh_in(
-        kernel, sweep, set, combined, out, start, selectors, rows, room, rest, scratch, token,
+        kernel, sweep, set, combined, out, keys, room, rest, scratch, token,
     );
 }

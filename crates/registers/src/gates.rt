@@ -11,6 +11,7 @@ use crate::lists::Lists;
 use crate::refuse::refuse_gate;
 use faults::fault::Fault;
 use gate::in_place::gate_at;
+use gate::keys::Keys;
 use gate::letter::Letter;
 use kernels::kernel::Kernel;
 use set::checked::Set;
@@ -47,8 +48,13 @@ fn gate_row<K: Kernel, S: Sweep>(
     requires z { z < count }
     ensures { regs.new ≡ put_row (numbers_of set.now) z regs.old (gates_by S.Sweep.defined K.Kernel.reads S.Sweep.count set.now start.now selectors.now rows.now letter (row_at (wide (numbers_of set.now)) x regs.old) (row_at (wide (numbers_of set.now)) y regs.old)) }
 {
+    let keys = Keys {
+        start,
+        selectors,
+        rows,
+    };
     let _ = gate_at(
-        kernel, sweep, set, letter, x, y, z, start, selectors, rows, regs, small, work, scratch,
+        kernel, sweep, set, letter, x, y, z, keys, regs, small, work, scratch,
     );
 }
 

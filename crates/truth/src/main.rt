@@ -11,13 +11,13 @@ mod toy;
 mod world;
 
 use crate::world::{Failure, World};
-use gate::letter::letter_of;
+use gate::letter::Letter;
 
 // Prints for each gate its letter and what it gives on 00, 01, 10 and 11, all of it computed under encryption.
 fn main(rt: HostRuntime) -> Result<(), Failure> {
     let mut world = World::new(rt.alloc())?;
     for name in ['N', 'A', 'O', 'R', 'X', 'E'] {
-        let Some(letter) = letter_of(name) else {
+        let Ok(letter) = Letter::try_from(name) else {
             continue;
         };
         let a = world.opened(letter, false, false)? as u8;

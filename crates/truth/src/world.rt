@@ -6,6 +6,7 @@ use crate::seal::{open, seal};
 use crate::toy::{INVERSE, RING_SECRET, SMALL_SECRET, TOY};
 use faults::fault::Fault;
 use gate::bootstrap::gate;
+use gate::keys::Keys;
 use gate::letter::Letter;
 use set::checked::Set;
 use std::alloc::{AllocError, Global};
@@ -156,9 +157,11 @@ impl World {
             &self.x,
             &self.y,
             &mut self.out,
-            &self.start,
-            &self.selectors,
-            &self.rows,
+            Keys {
+                start: &self.start,
+                selectors: &self.selectors,
+                rows: &self.rows,
+            },
             &mut self.small,
             &mut self.work,
             &mut self.scratch,

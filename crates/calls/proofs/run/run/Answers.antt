@@ -2,7 +2,7 @@ use Rattle.std.proofs.Common.{ℕ, ◌*◌, List, map, length, rules}
 use Rattle.std.proofs.lemmas.Result.{MatchResult-weaker}
 use Rattle.set.specs.declared.numbers.Numbers.{Numbers}
 use Rattle.gate.specs.Keys.{start_of, selectors_of}
-use Rattle.gate.proofs.Keys.{read_long, read_polys}
+use Rattle.gate.proofs.KeyRows.{read_long, read_polys}
 use Rattle.registers.specs.declared.lists.Lists.{Lists}
 use Rattle.registers.specs.Registers.{numbers_of}
 use Rattle.calls.specs.Calls.{asked, handed_lists}

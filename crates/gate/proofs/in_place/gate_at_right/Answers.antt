@@ -3,7 +3,7 @@ use borrow.Rule.Slice.PartMut.{put_mid}
 use Rattle.gate.specs.Keys.{start_of, selectors_of}
 use Rattle.gate.specs.Gates.{gate_of, GateHolds, register_at, with_register}
 use Rattle.gate.proofs.Holding.{gate_holds, gate_from, gate_long}
-use Rattle.gate.proofs.Keys.{read_long, read_polys}
+use Rattle.gate.proofs.KeyRows.{read_long, read_polys}
 use Rattle.gate.proofs.Reach.{register_new, put_register}
 use Rattle.gate.proofs.in_place.gate_at_right.Goals as goal
 
@@ -13,9 +13,9 @@ returns g c =
     let n = c.args.set.now.within.numbers in
     let l = c.args.letter in
     let defined = g.S.Sweep.defined in
-    let start : List (List ℕ) = start_of g.K.Kernel.reads c.args.set.now c.args.start.now in
-    let keys : List (List ℕ) = selectors_of g.K.Kernel.reads g.S.Sweep.count c.args.set.now c.args.selectors.now in
-    let rows : List ℕ = c.args.rows.now in
+    let start : List (List ℕ) = start_of g.K.Kernel.reads c.args.set.now c.args.keys.start.now in
+    let keys : List (List ℕ) = selectors_of g.K.Kernel.reads g.S.Sweep.count c.args.set.now c.args.keys.selectors.now in
+    let rows : List ℕ = c.args.keys.rows.now in
     let regs : List ℕ = c.args.registers.now in
     let xs : List ℕ = register_at n regs c.args.x in
     let ys : List ℕ = register_at n regs c.args.y in
@@ -32,6 +32,6 @@ returns g c =
           (sym (ap (λ (v : List ℕ). register_at n v c.args.z) put
           ∙ register_new n regs new c.args.z c.requires.z (gate_long defined n l start keys rows xs ys)))
           (gate_holds defined g.S.Sweep.noise g.S.Sweep.count g.S.Sweep.message g.met.S.Sweep.means set l start keys rows xs ys
-          (read_long (g.K.Kernel.reads c.args.set.now.ring) n.degree (g.S.Sweep.count c.args.set.now.within * n.digits) c.args.selectors.now)
-          (read_polys g.K.Kernel.reads g.K.Kernel.form g.met.K.Kernel.forms set (g.S.Sweep.count c.args.set.now.within * n.digits) c.args.selectors.now));
+          (read_long (g.K.Kernel.reads c.args.set.now.ring) n.degree (g.S.Sweep.count c.args.set.now.within * n.digits) c.args.keys.selectors.now)
+          (read_polys g.K.Kernel.reads g.K.Kernel.form g.met.K.Kernel.forms set (g.S.Sweep.count c.args.set.now.within * n.digits) c.args.keys.selectors.now));
     }
