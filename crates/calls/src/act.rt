@@ -32,8 +32,8 @@ pub fn act<K: Kernel + Drop, S: Sweep + Drop>(
         Op::Gate { letter, x, y, z } => file.gate(
             engine, letter, x, y, z, start, selectors, rows, regs, small, work, scratch,
         ),
-        Op::Invert { x, z } => file.invert(engine, x, z, regs),
-        Op::Copy { x, z } => file.copy(engine, x, z, regs),
-        Op::Clear { z } => file.clear(engine, z, regs),
+        Op::Invert { x, z } => file.invert(engine.set(), x, z, regs),
+        Op::Copy { x, z } => file.copy(engine.set(), x, z, regs),
+        Op::Clear { z } => file.clear(engine.set(), z, regs),
     }
 }

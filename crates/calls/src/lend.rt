@@ -119,5 +119,5 @@ pub fn read_lent<K: Drop, S: Drop>(
 {
     slot.fill(0);
     let n = at_most(len, slot.len());
-    file.read(engine, x, &mut slot[0..n], regs)
+    file.read(engine.set(), x, &mut slot[0..n], regs)
 }

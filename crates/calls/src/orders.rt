@@ -16,7 +16,7 @@ use kernels::kernel::Kernel;
 use registers::file::File;
 use registers::lists::Lists;
 use sweeps::sweep::Sweep;
-use words::guard::{Wiped, WipedShorts};
+use words::guard::Wiped;
 
 // Orders one after the other, up to the first that is refused.
 fn follow<K: Kernel + Drop, S: Sweep + Drop>(
@@ -88,14 +88,14 @@ pub fn run_orders<K: Kernel + Drop, S: Sweep + Drop>(
     ensures work { work.new ≡ replicate (length work.old) 0 }
     ensures scratch { scratch.new ≡ replicate (length scratch.old) 0 }
 {
-    let little = WipedShorts { shorts: small };
+    let little = Wiped { words: small };
     let room = Wiped { words: work };
     let spare = Wiped { words: scratch };
     let lists = Lists {
         start: start.len(),
         selectors: selectors.len(),
         rows: rows.len(),
-        small: little.shorts.len(),
+        small: little.words.len(),
         work: room.words.len(),
         scratch: spare.words.len(),
     };
@@ -113,7 +113,7 @@ pub fn run_orders<K: Kernel + Drop, S: Sweep + Drop>(
         selectors,
         rows,
         regs,
-        little.shorts,
+        little.words,
         room.words,
         spare.words,
     )

@@ -20,7 +20,7 @@ use registers::file::File;
 use registers::lists::Lists;
 use registers::sizes::width;
 use sweeps::sweep::Sweep;
-use words::guard::{Wiped, WipedShorts};
+use words::guard::Wiped;
 
 // Every call in turn, whatever those before it answered.
 fn each<K: Kernel + Drop, S: Sweep + Drop>(
@@ -105,7 +105,7 @@ fn begin<K: Kernel + Drop, S: Sweep + Drop>(
     ) {
         return Err(fault);
     }
-    let mut file = File::new(engine, count, regs)?;
+    let mut file = File::new(engine.set(), count, regs)?;
     each(
         engine, &mut file, calls, got, reads, start, selectors, rows, regs, small, work, scratch,
     );
@@ -134,7 +134,7 @@ pub fn run<K: Kernel + Drop, S: Sweep + Drop>(
     ensures work { work.new ≡ replicate (length work.old) 0 }
     ensures scratch { scratch.new ≡ replicate (length scratch.old) 0 }
 {
-    let little = WipedShorts { shorts: small };
+    let little = Wiped { words: small };
     let room = Wiped { words: work };
     let spare = Wiped { words: scratch };
     begin(
@@ -147,7 +147,7 @@ pub fn run<K: Kernel + Drop, S: Sweep + Drop>(
         selectors,
         rows,
         regs,
-        little.shorts,
+        little.words,
         room.words,
         spare.words,
     )

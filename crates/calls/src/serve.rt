@@ -26,7 +26,7 @@ fn place<K: Drop, S: Drop>(
     ensures answer { result ≡ verdict (refuse_place (numbers_of engine.now.set) (state_of file.old regs.old) z words.now) }
     ensures state { state_of file.new regs.new ≡ next_place (numbers_of engine.now.set) (state_of file.old regs.old) z words.now }
 {
-    verdict_of(file.place(engine, z, words, regs))
+    verdict_of(file.place(engine.set(), z, words, regs))
 }
 
 // A reading as a call.

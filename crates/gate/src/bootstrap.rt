@@ -5,7 +5,6 @@ ghost use Rattle.gate.specs.Keys.{start_of, selectors_of};
 ghost use Rattle.gate.specs.Lengths.{words_of, start_length, selectors_length, rows_length, gate_work};
 ghost use Rattle.gate.specs.Gates.{gate_of, gate_refused, GateHolds};
 
-use crate::guard::WipedSmall;
 use crate::keys::Keys;
 use crate::lengths::gate_fault;
 use crate::letter::Letter;
@@ -70,7 +69,7 @@ pub fn gate<K: Kernel, S: Sweep>(
     ensures work { work.new ≡ replicate (length work.old) 0 }
     ensures scratch { scratch.new ≡ replicate (length scratch.old) 0 }
 {
-    let little = WipedSmall { words: small };
+    let little = Wiped { words: small };
     let room = Wiped { words: work };
     let spare = Wiped { words: scratch };
     if let Some(fault) = gate_fault(

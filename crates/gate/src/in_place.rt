@@ -6,7 +6,6 @@ ghost use Rattle.gate.specs.Lengths.{words_of, start_length, selectors_length, r
 ghost use Rattle.gate.specs.Stages.{combined_of, inverted_of};
 ghost use Rattle.gate.specs.Gates.{gate_of, gate_at_refused, GateHolds, invert_at_refused, InvertHolds, register_at, with_register};
 
-use crate::guard::WipedSmall;
 use crate::keys::Keys;
 use crate::lengths::{gate_at_fault, invert_at_fault, words_of};
 use crate::letter::Letter;
@@ -117,7 +116,7 @@ pub fn gate_at<K: Kernel, S: Sweep>(
     ensures work { work.new ≡ replicate (length work.old) 0 }
     ensures scratch { scratch.new ≡ replicate (length scratch.old) 0 }
 {
-    let little = WipedSmall { words: small };
+    let little = Wiped { words: small };
     let room = Wiped { words: work };
     let spare = Wiped { words: scratch };
     if let Some(fault) = gate_at_fault(

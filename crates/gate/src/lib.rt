@@ -3,7 +3,6 @@
 
 mod beginning;
 pub mod bootstrap;
-mod guard;
 pub mod in_place;
 pub mod inverse;
 pub mod keys;

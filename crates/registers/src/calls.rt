@@ -14,21 +14,18 @@ use engine::engine::Engine;
 use faults::fault::Fault;
 use gate::letter::Letter;
 use kernels::kernel::Kernel;
+use set::checked::Set;
 use sweeps::sweep::Sweep;
 
 impl File {
     // A file of R empty registers, all of whose words become 0.
-    pub fn new<K: Drop, S: Drop>(
-        engine: &Engine<K, S>,
-        count: u32,
-        regs: &mut [u16],
-    ) -> Result<File, Fault>
-        ensures answer { refusal result ≡ refuse_new (numbers_of engine.now.set) count (length regs.old) }
-        ensures file { IfOk result (λ f. state_of f regs.new ≡ fresh (numbers_of engine.now.set) count) }
-        ensures words { regs.new ≡ either (refuse_new (numbers_of engine.now.set) count (length regs.old)) regs.old (replicate (count * wide (numbers_of engine.now.set)) 0) }
-        ensures least { LeastNew (numbers_of engine.now.set) count (length regs.old) }
+    pub fn new(set: &Set, count: u32, regs: &mut [u16]) -> Result<File, Fault>
+        ensures answer { refusal result ≡ refuse_new (numbers_of set.now) count (length regs.old) }
+        ensures file { IfOk result (λ f. state_of f regs.new ≡ fresh (numbers_of set.now) count) }
+        ensures words { regs.new ≡ either (refuse_new (numbers_of set.now) count (length regs.old)) regs.old (replicate (count * wide (numbers_of set.now)) 0) }
+        ensures least { LeastNew (numbers_of set.now) count (length regs.old) }
     {
-        if let Some(fault) = refuse_new(engine.set(), count, regs.len()) {
+        if let Some(fault) = refuse_new(set, count, regs.len()) {
             return Err(fault);
         }
         regs.fill(0);
@@ -36,76 +33,53 @@ impl File {
     }
 
     // Copies the words of a ciphertext to z, and marks z.
-    pub fn place<K: Drop, S: Drop>(
-        &mut self,
-        engine: &Engine<K, S>,
-        z: u32,
-        words: &[u16],
-        regs: &mut [u16],
-    ) -> Result<(), Fault>
-        ensures answer { result ≡ told (refuse_place (numbers_of engine.now.set) (state_of self.old regs.old) z words.now) }
-        ensures state { state_of self.new regs.new ≡ next_place (numbers_of engine.now.set) (state_of self.old regs.old) z words.now }
-        ensures least { LeastPlace (numbers_of engine.now.set) (state_of self.old regs.old) z words.now }
+    pub fn place(&mut self, set: &Set, z: u32, words: &[u16], regs: &mut [u16]) -> Result<(), Fault>
+        ensures answer { result ≡ told (refuse_place (numbers_of set.now) (state_of self.old regs.old) z words.now) }
+        ensures state { state_of self.new regs.new ≡ next_place (numbers_of set.now) (state_of self.old regs.old) z words.now }
+        ensures least { LeastPlace (numbers_of set.now) (state_of self.old regs.old) z words.now }
     {
-        if let Some(fault) = refuse_place(engine.set(), self, z, words, regs) {
+        if let Some(fault) = refuse_place(set, self, z, words, regs) {
             return Err(fault);
         }
-        put_at(engine.set(), self.registers(), words, regs, z);
+        put_at(set, self.registers(), words, regs, z);
         self.mark(z, true);
         Ok(())
     }
 
     // Copies the words of x out, by remainders.
-    pub fn read<K: Drop, S: Drop>(
-        &self,
-        engine: &Engine<K, S>,
-        x: u32,
-        out: &mut [u16],
-        regs: &[u16],
-    ) -> Result<(), Fault>
-        ensures answer { result ≡ told (refuse_read (numbers_of engine.now.set) (state_of self.now regs.now) x (length out.old)) }
-        ensures words { out.new ≡ read_out (numbers_of engine.now.set) (state_of self.now regs.now) x out.old }
-        ensures least { LeastRead (numbers_of engine.now.set) (state_of self.now regs.now) x (length out.old) }
+    pub fn read(&self, set: &Set, x: u32, out: &mut [u16], regs: &[u16]) -> Result<(), Fault>
+        ensures answer { result ≡ told (refuse_read (numbers_of set.now) (state_of self.now regs.now) x (length out.old)) }
+        ensures words { out.new ≡ read_out (numbers_of set.now) (state_of self.now regs.now) x out.old }
+        ensures least { LeastRead (numbers_of set.now) (state_of self.now regs.now) x (length out.old) }
     {
-        if let Some(fault) = refuse_read(engine.set(), self, x, out.len(), regs) {
+        if let Some(fault) = refuse_read(set, self, x, out.len(), regs) {
             return Err(fault);
         }
-        take_at(engine.set(), self.registers(), regs, x, out);
+        take_at(set, self.registers(), regs, x, out);
         Ok(())
     }
 
     // Writes the words of x to z, by remainders, and marks z.
-    pub fn copy<K: Drop, S: Drop>(
-        &mut self,
-        engine: &Engine<K, S>,
-        x: u32,
-        z: u32,
-        regs: &mut [u16],
-    ) -> Result<(), Fault>
-        ensures answer { result ≡ told (refuse_op (numbers_of engine.now.set) (state_of self.old regs.old) (Op.Copy x z)) }
-        ensures state { state_of self.new regs.new ≡ next_copy (numbers_of engine.now.set) (state_of self.old regs.old) x z }
-        ensures least { LeastOp (numbers_of engine.now.set) (state_of self.old regs.old) (Op.Copy x z) }
+    pub fn copy(&mut self, set: &Set, x: u32, z: u32, regs: &mut [u16]) -> Result<(), Fault>
+        ensures answer { result ≡ told (refuse_op (numbers_of set.now) (state_of self.old regs.old) (Op.Copy x z)) }
+        ensures state { state_of self.new regs.new ≡ next_copy (numbers_of set.now) (state_of self.old regs.old) x z }
+        ensures least { LeastOp (numbers_of set.now) (state_of self.old regs.old) (Op.Copy x z) }
     {
-        if let Some(fault) = refuse_op(engine.set(), self, Op::Copy { x, z }, regs) {
+        if let Some(fault) = refuse_op(set, self, Op::Copy { x, z }, regs) {
             return Err(fault);
         }
-        copy_at(engine.set(), self.registers(), regs, x, z);
+        copy_at(set, self.registers(), regs, x, z);
         self.mark(z, true);
         Ok(())
     }
 
     // Takes the mark of z off, and leaves its words.
-    pub fn clear<K: Drop, S: Drop>(
-        &mut self,
-        engine: &Engine<K, S>,
-        z: u32,
-        regs: &mut [u16],
-    ) -> Result<(), Fault>
-        ensures answer { result ≡ told (refuse_op (numbers_of engine.now.set) (state_of self.old regs.old) (Op.Clear z)) }
-        ensures state { state_of self.new regs.new ≡ next_clear (numbers_of engine.now.set) (state_of self.old regs.old) z }
-        ensures least { LeastOp (numbers_of engine.now.set) (state_of self.old regs.old) (Op.Clear z) }
+    pub fn clear(&mut self, set: &Set, z: u32, regs: &mut [u16]) -> Result<(), Fault>
+        ensures answer { result ≡ told (refuse_op (numbers_of set.now) (state_of self.old regs.old) (Op.Clear z)) }
+        ensures state { state_of self.new regs.new ≡ next_clear (numbers_of set.now) (state_of self.old regs.old) z }
+        ensures least { LeastOp (numbers_of set.now) (state_of self.old regs.old) (Op.Clear z) }
     {
-        if let Some(fault) = refuse_op(engine.set(), self, Op::Clear { z }, regs) {
+        if let Some(fault) = refuse_op(set, self, Op::Clear { z }, regs) {
             return Err(fault);
         }
         self.mark(z, false);
@@ -113,21 +87,15 @@ impl File {
     }
 
     // Writes the words of the opposite bit of x to z, and marks z.
-    pub fn invert<K: Drop, S: Drop>(
-        &mut self,
-        engine: &Engine<K, S>,
-        x: u32,
-        z: u32,
-        regs: &mut [u16],
-    ) -> Result<(), Fault>
-        ensures answer { result ≡ told (refuse_op (numbers_of engine.now.set) (state_of self.old regs.old) (Op.Invert x z)) }
-        ensures state { state_of self.new regs.new ≡ next_invert (numbers_of engine.now.set) (state_of self.old regs.old) x z }
-        ensures least { LeastOp (numbers_of engine.now.set) (state_of self.old regs.old) (Op.Invert x z) }
+    pub fn invert(&mut self, set: &Set, x: u32, z: u32, regs: &mut [u16]) -> Result<(), Fault>
+        ensures answer { result ≡ told (refuse_op (numbers_of set.now) (state_of self.old regs.old) (Op.Invert x z)) }
+        ensures state { state_of self.new regs.new ≡ next_invert (numbers_of set.now) (state_of self.old regs.old) x z }
+        ensures least { LeastOp (numbers_of set.now) (state_of self.old regs.old) (Op.Invert x z) }
     {
-        if let Some(fault) = refuse_op(engine.set(), self, Op::Invert { x, z }, regs) {
+        if let Some(fault) = refuse_op(set, self, Op::Invert { x, z }, regs) {
             return Err(fault);
         }
-        invert_at(engine.set(), self.registers(), regs, x, z);
+        invert_at(set, self.registers(), regs, x, z);
         self.mark(z, true);
         Ok(())
     }

@@ -16,7 +16,7 @@ use gate::letter::Letter;
 use kernels::kernel::Kernel;
 use set::checked::Set;
 use sweeps::sweep::Sweep;
-use words::guard::{Wiped, WipedShorts};
+use words::guard::Wiped;
 
 // Writes the gate of the registers x and y to z, of so many.
 fn gate_row<K: Kernel, S: Sweep>(
@@ -83,14 +83,14 @@ pub(crate) fn gate_on<K: Kernel, S: Sweep>(
     ensures scratch { scratch.new ≡ replicate (length scratch.old) 0 }
     ensures least { LeastGate (numbers_of set.now) (S.Sweep.count set.now.within) (record { start = length start.entry.now; selectors = length selectors.now; rows = length rows.now; small = length small.old; work = length work.old; scratch = length scratch.old }) (state_of file.old regs.old) x y z }
 {
-    let little = WipedShorts { shorts: small };
+    let little = Wiped { words: small };
     let room = Wiped { words: work };
     let spare = Wiped { words: scratch };
     let lists = Lists {
         start: start.len(),
         selectors: selectors.len(),
         rows: rows.len(),
-        small: little.shorts.len(),
+        small: little.words.len(),
         work: room.words.len(),
         scratch: spare.words.len(),
     };
@@ -110,7 +110,7 @@ pub(crate) fn gate_on<K: Kernel, S: Sweep>(
         selectors,
         rows,
         regs,
-        little.shorts,
+        little.words,
         room.words,
         spare.words,
     );

@@ -18,5 +18,5 @@ returns-in_err-file g c =
     let none : refuse_run m count c.args.count (length c.args.calls.now) (length c.args.got.now) (length c.args.reads.now) (length c.args.regs.now) lists ≡ None =
     sym (c.in_default.ensures
     ∙ ap (λ (v : Set). refuse_run (numbers_of v) (g.S.Sweep.count v.within) c.args.count (length c.args.calls.now) (length c.args.got.now) (length c.args.reads.now) (length c.args.regs.now) lists) c.set.ensures) in
-    never c.in_err-file.field-0.0 (refuse_new m c.args.count (length c.args.regs.now)) c.in_err-file.ensures.answer
+    never c.in_err-file.field-0.0 (refuse_new m c.args.count (length c.args.regs.now)) (rw c.set-2.ensures at c.in_err-file.ensures.answer)
     (file_made m count c.args.count (length c.args.calls.now) (length c.args.got.now) (length c.args.reads.now) (length c.args.regs.now) lists none)

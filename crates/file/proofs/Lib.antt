@@ -1,5 +1,0 @@
-pub mod Memory
-pub mod Opposite
-pub mod Smallest
-pub mod Refusals
-pub mod Accepted

@@ -1,4 +1,0 @@
-pub mod Registers
-pub mod Marks
-pub mod Steps
-pub mod Wrong
