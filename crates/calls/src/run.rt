@@ -46,10 +46,11 @@ impl<K: Kernel + Drop, S: Sweep + Drop> Loaded<'_, K, S> {
         ensures state { state_of file.new regs.new ≡ left (gates_by S.Sweep.defined K.Kernel.reads S.Sweep.count self.now.engine.now.set self.now.keys.start.now self.now.keys.selectors.now self.now.keys.rows.now) (numbers_of self.now.engine.now.set) (S.Sweep.count self.now.engine.now.set.within) (state_of file.old regs.old) (map asked calls.now) }
     {
         let size = width(self.engine.set()) + 1;
-        for i in 0..calls.len() {
+        // Kept: got and reads by number, for a zip with iter_mut and chunks_exact_mut, which was tried, tells nothing of what they end as.
+        for (i, call) in calls.iter().enumerate() {
             let at = i * size;
             let slot = &mut reads[at..at + size];
-            got[i] = self.serve(file, &calls[i], slot, regs, small, work, scratch);
+            got[i] = self.serve(file, call, slot, regs, small, work, scratch);
         }
     }
 }
