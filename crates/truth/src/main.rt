@@ -1,10 +1,10 @@
 #![tactic(auto)]
 
+mod forms;
 mod generator;
 mod lengths;
 mod maker;
 mod modular;
-mod product;
 mod seal;
 mod secrets;
 mod toy;

@@ -1,7 +1,7 @@
+use crate::forms::turn_all;
 use crate::generator::Generator;
 use crate::lengths::digit_words;
 use crate::maker::{KeyMemory, make_keys, sample_counts};
-use crate::product::turn_all;
 use crate::seal::{open, seal};
 use crate::toy::{SECRETS, TOY};
 use faults::fault::Fault;
