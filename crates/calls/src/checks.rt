@@ -8,30 +8,22 @@ ghost use Rattle.calls.specs.Calls.{bad_list, bad_keys, bad_work, refuse_orders}
 ghost use Rattle.calls.specs.Runs.{run_lists, refuse_run};
 
 use faults::fault::{Fault, Layer};
+use faults::lengths::check_length;
+use gate::sizes::gate_words;
 use registers::file::File;
 use registers::lists::Lists;
-use registers::sizes::{gate_words, memory_of, row_words, selector_words, start_words, width};
+use registers::sizes::{memory_of, selector_words};
 use set::checked::Set;
 use sweeps::sweep::Sweep;
-
-// A list has the right length.
-pub fn check_list(part: Layer, list: u32, have: usize, want: usize) -> Result<(), Fault>
-    ensures { result ≡ told (bad_list part list have want) }
-{
-    if have != want {
-        return Err(Fault::Length { list, part });
-    }
-    Ok(())
-}
 
 // Key memory, as three lists.
 pub fn check_keys<S: Sweep>(set: &Set, part: Layer, list: u32, lists: Lists) -> Result<(), Fault>
     requires { list ≤ 16 }
     ensures { result ≡ told (bad_keys part list (numbers_of set.now) (S.Sweep.count set.now.within) lists) }
 {
-    check_list(part, list, lists.start, start_words(set))?;
-    check_list(part, list + 1, lists.selectors, selector_words::<S>(set))?;
-    check_list(part, list + 2, lists.rows, row_words(set))
+    check_length(part, list, lists.start, set.key_words())?;
+    check_length(part, list + 1, lists.selectors, selector_words::<S>(set))?;
+    check_length(part, list + 2, lists.rows, set.row_words())
 }
 
 // Small memory, work memory and scratch, as three lists.
@@ -40,16 +32,16 @@ pub fn check_work(set: &Set, part: Layer, list: u32, more: usize, lists: Lists) 
     requires more { more ≤ 1 }
     ensures { result ≡ told (bad_work part list more (numbers_of set.now) lists) }
 {
-    check_list(part, list, lists.small, width(set) + more)?;
-    check_list(part, list + 1, lists.work, gate_words(set) + more)?;
-    check_list(part, list + 2, lists.scratch, set.degree() + more)
+    check_length(part, list, lists.small, set.cipher_words() + more)?;
+    check_length(part, list + 1, lists.work, gate_words(set) + more)?;
+    check_length(part, list + 2, lists.scratch, set.degree() + more)
 }
 
 // Register memory of so many registers.
 pub fn check_memory(set: &Set, part: Layer, list: u32, count: u32, len: usize) -> Result<(), Fault>
     ensures { result ≡ told (bad_list part list len (count * wide (numbers_of set.now))) }
 {
-    check_list(part, list, len, memory_of(set, count))
+    check_length(part, list, len, memory_of(set, count))
 }
 
 // The lists of the runner.
@@ -78,7 +70,7 @@ fn is_product(n: usize, rows: usize, size: usize) -> bool
 fn check_reads(set: &Set, calls: usize, reads: usize) -> Result<(), Fault>
     ensures { result ≡ told (bad_list Runs 2 reads (calls * (wide (numbers_of set.now) + 1))) }
 {
-    if !is_product(reads, calls, width(set) + 1) {
+    if !is_product(reads, calls, set.cipher_words() + 1) {
         return Err(Fault::Length {
             list: 2,
             part: Layer::Runs,
@@ -109,7 +101,7 @@ fn check_run_lists<S: Sweep>(
 ) -> Result<(), Fault>
     ensures { result ≡ told (run_lists (numbers_of set.now) (S.Sweep.count set.now.within) count calls got reads regs lists) }
 {
-    check_list(Layer::Runs, 1, got, calls)?;
+    check_length(Layer::Runs, 1, got, calls)?;
     check_reads(set, calls, reads)?;
     check_keys::<S>(set, Layer::Runs, 3, lists)?;
     check_memory(set, Layer::Runs, 6, count, regs)?;

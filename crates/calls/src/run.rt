@@ -19,7 +19,6 @@ use gate::keys::Keys;
 use kernels::kernel::Kernel;
 use registers::file::File;
 use registers::lists::Lists;
-use registers::sizes::width;
 use sweeps::sweep::Sweep;
 use words::guard::Wiped;
 
@@ -45,7 +44,7 @@ impl<K: Kernel + Drop, S: Sweep + Drop> Loaded<'_, K, S> {
         ensures reads { reads.new ≡ slots (gates_by S.Sweep.defined K.Kernel.reads S.Sweep.count self.now.engine.now.set self.now.keys.start.now self.now.keys.selectors.now self.now.keys.rows.now) (numbers_of self.now.engine.now.set) (S.Sweep.count self.now.engine.now.set.within) (state_of file.old regs.old) (map asked calls.now) }
         ensures state { state_of file.new regs.new ≡ left (gates_by S.Sweep.defined K.Kernel.reads S.Sweep.count self.now.engine.now.set self.now.keys.start.now self.now.keys.selectors.now self.now.keys.rows.now) (numbers_of self.now.engine.now.set) (S.Sweep.count self.now.engine.now.set.within) (state_of file.old regs.old) (map asked calls.now) }
     {
-        let size = width(self.engine.set()) + 1;
+        let size = self.engine.set().cipher_words() + 1;
         // Kept: got and reads by number, for a zip with iter_mut and chunks_exact_mut, which was tried, tells nothing of what they end as.
         for (i, call) in calls.iter().enumerate() {
             let at = i * size;

@@ -4,30 +4,9 @@ ghost use Rattle.faults.specs.declared.fault.Layer.TheVariants.{Image};
 ghost use Rattle.engine.specs.Load.{start_words, selector_words, row_words, parts_broken, load_lists};
 
 use faults::fault::{Fault, Layer};
+use faults::lengths::check_length;
 use image::directory::length_of;
 use set::checked::Set;
-
-// The words of the start key, of `count` selectors, and of the switch rows.
-fn start_words(set: &Set) -> usize
-    ensures { result ≡ start_words set.now.within.numbers }
-{
-    set.digits() * set.degree()
-}
-
-fn selector_words(set: &Set, count: usize) -> usize
-    requires { count ≤ 2 ^ 14 }
-    ensures value { result ≡ selector_words set.now.within.numbers count }
-    ensures few { result ≤ 2 ^ 40 }
-{
-    count * set.digits() * set.degree()
-}
-
-fn row_words(set: &Set) -> usize
-    ensures value { result ≡ row_words set.now.within.numbers }
-    ensures few { result ≤ 2 ^ 40 }
-{
-    set.degree() * (set.places() * (set.dimension() + 1))
-}
 
 // A part refused by its pair, unless its length is right.
 fn part(right: bool, pair: u32) -> Result<(), Fault>
@@ -45,12 +24,12 @@ pub fn check_parts(image: &[u8], set: &Set, count: usize) -> Result<(), Fault>
     requires { count ≤ 2 ^ 14 }
     ensures { refusal result ≡ parts_broken set.now.within.numbers count image.now }
 {
-    part(length_of(image, 1) as usize == 4 * start_words(set), 1)?;
+    part(length_of(image, 1) as usize == 4 * set.key_words(), 1)?;
     part(
-        length_of(image, 2) as usize == 4 * selector_words(set, count),
+        length_of(image, 2) as usize == 4 * set.selector_words(count),
         2,
     )?;
-    part(length_of(image, 3) as usize == 4 * row_words(set), 3)
+    part(length_of(image, 3) as usize == 4 * set.row_words(), 3)
 }
 
 // The lengths of the lists that a load is lent.
@@ -62,27 +41,13 @@ pub struct Lengths {
     pub scratch: usize,
 }
 
-// A list refused by its number, unless its length is right.
-fn list(right: bool, list: u32) -> Result<(), Fault>
-    ensures { refusal result ≡ unless right (Fault.Length list Image) }
-{
-    if right {
-        Ok(())
-    } else {
-        Err(Fault::Length {
-            list,
-            part: Layer::Image,
-        })
-    }
-}
-
 // The lists of a load have their lengths.
 pub fn check_lists(set: &Set, count: usize, lengths: &Lengths) -> Result<(), Fault>
     requires { count ≤ 2 ^ 14 }
     ensures { refusal result ≡ load_lists set.now.within.numbers count lengths.now.start lengths.now.selectors lengths.now.rows lengths.now.scratch }
 {
-    list(lengths.start == start_words(set), 1)?;
-    list(lengths.selectors == selector_words(set, count), 2)?;
-    list(lengths.rows == row_words(set), 3)?;
-    list(lengths.scratch == set.degree(), 4)
+    check_length(Layer::Image, 1, lengths.start, set.key_words())?;
+    check_length(Layer::Image, 2, lengths.selectors, set.selector_words(count))?;
+    check_length(Layer::Image, 3, lengths.rows, set.row_words())?;
+    check_length(Layer::Image, 4, lengths.scratch, set.degree())
 }

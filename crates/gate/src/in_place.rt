@@ -7,7 +7,7 @@ ghost use Rattle.gate.specs.Stages.{combined_of, inverted_of};
 ghost use Rattle.gate.specs.Gates.{gate_of, gate_at_refused, GateHolds, invert_at_refused, InvertHolds, register_at, with_register};
 
 use crate::keys::Keys;
-use crate::lengths::{check_gate_at, check_invert_at, words_of};
+use crate::lengths::{check_gate_at, check_invert_at};
 use crate::letter::Letter;
 use crate::parts::part_of;
 use crate::refresh::Refresher;
@@ -34,7 +34,7 @@ fn combine_at(
     requires out { length out.old ≡ words_of set.now.within.numbers }
     ensures { out.new ≡ combined_of set.now.within.numbers letter (register_at set.now.within.numbers registers.now x) (register_at set.now.within.numbers registers.now y) }
 {
-    let words = words_of(set);
+    let words = set.cipher_words();
     combine_right(
         set,
         letter,
@@ -88,7 +88,7 @@ pub fn gate_at<K: Kernel, S: Sweep>(
         set,
         keys,
     };
-    let words = words_of(set);
+    let words = set.cipher_words();
     let at = z as usize * words;
     refresher.refresh(
         little.words,
@@ -106,7 +106,7 @@ fn invert_at_right(set: &Set, x: usize, z: usize, registers: &mut [u16])
     ensures words { registers.new ≡ with_register set.now.within.numbers registers.old z (inverted_of set.now.within.numbers (register_at set.now.within.numbers registers.old x)) }
     ensures holds { InvertHolds set.now.within (register_at set.now.within.numbers registers.old x) (register_at set.now.within.numbers registers.new z) }
 {
-    let words = words_of(set);
+    let words = set.cipher_words();
     let from = x * words;
     let to = z * words;
     registers.copy_within(from..from + words, to);

@@ -5,7 +5,7 @@ ghost use Rattle.gate.specs.Lengths.{words_of};
 ghost use Rattle.gate.specs.Stages.{inverted_of};
 ghost use Rattle.gate.specs.Gates.{invert_refused, InvertHolds};
 
-use crate::lengths::{check_lengths, words_of};
+use crate::lengths::check_lengths;
 use crate::vectors::invert_words;
 use faults::fault::Fault;
 use set::checked::Set;
@@ -26,7 +26,7 @@ pub fn invert(set: &Set, x: &[u16], out: &mut [u16]) -> Result<(), Fault>
     ensures words { out.new ≡ after result (inverted_of set.now.within.numbers x.now) out.old }
     ensures holds { OnOk result (InvertHolds set.now.within x.now out.new) }
 {
-    let words = words_of(set);
+    let words = set.cipher_words();
     check_lengths(&[(x.len(), words), (out.len(), words)])?;
     invert_right(set, x, out);
     Ok(())

@@ -4,61 +4,9 @@ ghost use Rattle.gate.specs.Gates.{gate_refused, GateFits, reach_of, gate_at_ref
 ghost use Rattle.gate.specs.Lengths.{words_of, sample_of, start_length, selectors_length, rows_length, sweep_work, gate_work, first_wrong, AllRight, start_refused, sweep_refused, StartFits, SweepFits};
 
 use crate::keys::Keys;
+use crate::sizes::gate_words;
 use faults::fault::{Fault, Layer};
 use set::checked::Set;
-
-// n + 1, the words of a ciphertext.
-pub fn words_of(set: &Set) -> usize
-    ensures value { result ≡ words_of set.now.within.numbers }
-    ensures few { result ≤ 513 }
-{
-    set.dimension() + 1
-}
-
-// N + 1, the words of an extracted sample.
-pub fn sample_of(set: &Set) -> usize
-    ensures value { result ≡ sample_of set.now.within.numbers }
-    ensures few { result ≤ 1025 }
-{
-    set.degree() + 1
-}
-
-// The words of the start key.
-pub fn start_length(set: &Set) -> usize
-    ensures { result ≡ start_length set.now.within.numbers }
-{
-    set.digits() * set.degree()
-}
-
-// The words of some selectors.
-pub fn selectors_length(set: &Set, count: usize) -> usize
-    requires { count ≤ 2 ^ 14 }
-    ensures { result ≡ selectors_length set.now.within.numbers count }
-{
-    count * set.digits() * set.degree()
-}
-
-// The words of the switch rows.
-pub fn rows_length(set: &Set) -> usize
-    ensures { result ≡ rows_length set.now.within.numbers }
-{
-    set.degree() * (set.places() * words_of(set))
-}
-
-// The work memory of a sweep.
-pub fn sweep_work(set: &Set) -> usize
-    ensures value { result ≡ sweep_work set.now.within.numbers }
-    ensures few { result ≤ 32768 }
-{
-    (set.digits() + 1) * set.degree()
-}
-
-// The work memory of a gate.
-pub fn gate_work(set: &Set) -> usize
-    ensures { result ≡ gate_work set.now.within.numbers }
-{
-    sweep_work(set) + set.degree() + sample_of(set) + sample_of(set) + words_of(set)
-}
 
 // The first list that has not its right length; each list is told by its length and the right one.
 fn first_wrong(lists: &[(usize, usize)]) -> Option<usize>
@@ -97,10 +45,10 @@ pub fn check_start(
 {
     let degree = set.degree();
     check_lengths(&[
-        (combined.len(), words_of(set)),
+        (combined.len(), set.cipher_words()),
         (acc.len(), degree),
-        (key.len(), start_length(set)),
-        (work.len(), sweep_work(set)),
+        (key.len(), set.key_words()),
+        (work.len(), set.sweep_words()),
         (scratch.len(), degree),
     ])
 }
@@ -121,10 +69,10 @@ pub fn check_sweep(
 {
     let degree = set.degree();
     check_lengths(&[
-        (combined.len(), words_of(set)),
+        (combined.len(), set.cipher_words()),
         (acc.len(), degree),
-        (keys.len(), selectors_length(set, count)),
-        (work.len(), sweep_work(set)),
+        (keys.len(), set.selector_words(count)),
+        (work.len(), set.sweep_words()),
         (scratch.len(), degree),
     ])
 }
@@ -145,16 +93,16 @@ pub fn check_gate(
     ensures answer { refusal result ≡ gate_refused set.now.within.numbers count (length x.now) (length y.now) (length out.now) (length keys.entry.start.now) (length keys.entry.selectors.now) (length keys.entry.rows.now) (length small.now) (length work.now) (length scratch.now) }
     ensures fits { IsOk result → GateFits set.now.within.numbers count (length x.now) (length y.now) (length out.now) (length keys.entry.start.now) (length keys.entry.selectors.now) (length keys.entry.rows.now) (length small.now) (length work.now) (length scratch.now) }
 {
-    let words = words_of(set);
+    let words = set.cipher_words();
     check_lengths(&[
         (x.len(), words),
         (y.len(), words),
         (out.len(), words),
-        (keys.start.len(), start_length(set)),
-        (keys.selectors.len(), selectors_length(set, count)),
-        (keys.rows.len(), rows_length(set)),
+        (keys.start.len(), set.key_words()),
+        (keys.selectors.len(), set.selector_words(count)),
+        (keys.rows.len(), set.row_words()),
         (small.len(), words),
-        (work.len(), gate_work(set)),
+        (work.len(), gate_words(set)),
         (scratch.len(), set.degree()),
     ])
 }
@@ -164,7 +112,7 @@ fn reach(set: &Set, x: u32, y: u32, z: u32) -> usize
     ensures { result ≡ reach_of set.now.within.numbers x y z }
 {
     let top = x.max(y).max(z) as usize;
-    (top + 1) * words_of(set)
+    (top + 1) * set.cipher_words()
 }
 
 // The lists of a gate on the registers x, y and z.
@@ -186,12 +134,12 @@ pub fn check_gate_at(
 {
     let held = registers.len();
     check_lengths(&[
-        (keys.start.len(), start_length(set)),
-        (keys.selectors.len(), selectors_length(set, count)),
-        (keys.rows.len(), rows_length(set)),
+        (keys.start.len(), set.key_words()),
+        (keys.selectors.len(), set.selector_words(count)),
+        (keys.rows.len(), set.row_words()),
         (held, held.max(reach(set, x, y, z))),
-        (small.len(), words_of(set)),
-        (work.len(), gate_work(set)),
+        (small.len(), set.cipher_words()),
+        (work.len(), gate_words(set)),
         (scratch.len(), set.degree()),
     ])
 }

@@ -11,6 +11,7 @@ mod lengths;
 pub mod letter;
 mod parts;
 mod refresh;
+pub mod sizes;
 pub mod stages;
 mod switching;
 mod vectors;

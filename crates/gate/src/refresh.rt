@@ -6,7 +6,6 @@ ghost use Rattle.gate.specs.Stages.{combined_of};
 ghost use Rattle.gate.specs.Gates.{rotated_of, settled_of, gate_of, GateHolds};
 
 use crate::keys::Keys;
-use crate::lengths::{sample_of, sweep_work};
 use crate::stages::extract::extract_right;
 use crate::stages::finish::finish_right;
 use crate::stages::narrow::narrow_right;
@@ -87,7 +86,7 @@ impl<K: Kernel, S: Sweep> Refresher<'_, K, S> {
             → (out.new ≡ gate_of S.Sweep.defined self.now.set.now.within.numbers l (start_of K.Kernel.reads self.now.set.now self.now.keys.start.now) (selectors_of K.Kernel.reads S.Sweep.count self.now.set.now self.now.keys.selectors.now) self.now.keys.rows.now xs ys)
             × GateHolds S.Sweep.noise S.Sweep.count S.Sweep.message self.now.set.now l (start_of K.Kernel.reads self.now.set.now self.now.keys.start.now) (selectors_of K.Kernel.reads S.Sweep.count self.now.set.now self.now.keys.selectors.now) self.now.keys.rows.now xs ys out.new }
     {
-        let (room, rest) = work.split_at_mut(sweep_work(self.set));
+        let (room, rest) = work.split_at_mut(self.set.sweep_words());
         let (acc, others) = rest.split_at_mut(self.set.degree());
         let swept = self.rotate(combined, acc, room, scratch, token);
         settle(self.set, acc, others, self.keys.rows, out, swept);
@@ -126,7 +125,7 @@ fn settle(set: &Set, acc: &mut [u32], rest: &mut [u32], rows: &[u32], out: &mut 
     requires out { length out.old ≡ words_of set.now.within.numbers }
     ensures { out.new ≡ settled_of set.now.within.numbers rows.now acc.old }
 {
-    let size = sample_of(set);
+    let size = set.sample_words();
     let (sample, others) = rest.split_at_mut(size);
     let (narrowed, switched) = others.split_at_mut(size);
     settle_in(set, acc, sample, narrowed, switched, rows, out, token);

@@ -10,8 +10,10 @@ use crate::file::File;
 use crate::lists::Lists;
 use crate::op::Op;
 use crate::rows::first_high;
-use crate::sizes::{gate_words, memory_of, row_words, selector_words, small, start_words, width};
+use crate::sizes::{memory_of, selector_words, small};
 use faults::fault::{Fault, Layer};
+use faults::lengths::check_length;
+use gate::sizes::gate_words;
 use set::checked::Set;
 use sweeps::sweep::Sweep;
 
@@ -33,25 +35,11 @@ fn empty(file: &File, uses: &[u32]) -> Option<u32>
     uses.iter().copied().filter(|x| !file.is_filled(*x)).min()
 }
 
-// A list of a call has its length.
-fn check_length(list: u32, have: usize, want: usize) -> Result<(), Fault>
-    ensures { result ≡ told (bad_length list have want) }
-{
-    if have == want {
-        Ok(())
-    } else {
-        Err(Fault::Length {
-            list,
-            part: Layer::File,
-        })
-    }
-}
-
 // Register memory has its length, as the list of this number.
 fn check_memory(list: u32, set: &Set, file: &File, regs: &[u16]) -> Result<(), Fault>
     ensures { result ≡ told (bad_memory list (numbers_of set.now) (state_of file.now regs.now)) }
 {
-    check_length(list, regs.len(), memory_of(set, file.registers()))
+    check_length(Layer::File, list, regs.len(), memory_of(set, file.registers()))
 }
 
 // The registers that a call names are below R.
@@ -103,13 +91,13 @@ fn check_words(set: &Set, words: &[u16]) -> Result<(), Fault>
 fn check_lists<S: Sweep>(set: &Set, file: &File, lists: Lists, regs: &[u16]) -> Result<(), Fault>
     ensures { result ≡ told (gate_lists (numbers_of set.now) (S.Sweep.count set.now.within) lists (state_of file.now regs.now)) }
 {
-    check_length(0, lists.start, start_words(set))?;
-    check_length(1, lists.selectors, selector_words::<S>(set))?;
-    check_length(2, lists.rows, row_words(set))?;
+    check_length(Layer::File, 0, lists.start, set.key_words())?;
+    check_length(Layer::File, 1, lists.selectors, selector_words::<S>(set))?;
+    check_length(Layer::File, 2, lists.rows, set.row_words())?;
     check_memory(3, set, file, regs)?;
-    check_length(4, lists.small, width(set))?;
-    check_length(5, lists.work, gate_words(set))?;
-    check_length(6, lists.scratch, set.degree())
+    check_length(Layer::File, 4, lists.small, set.cipher_words())?;
+    check_length(Layer::File, 5, lists.work, gate_words(set))?;
+    check_length(Layer::File, 6, lists.scratch, set.degree())
 }
 
 // Each check below tells the least of the faults that are true of what the call was handed.
@@ -120,7 +108,7 @@ pub fn check_new(set: &Set, count: u32, len: usize) -> Result<(), Fault>
     ensures answer { result ≡ told (refuse_new (numbers_of set.now) count len) }
     ensures least { LeastNew (numbers_of set.now) count len }
 {
-    check_length(0, len, memory_of(set, count))?;
+    check_length(Layer::File, 0, len, memory_of(set, count))?;
     if 1 <= count && count <= 64 {
         Ok(())
     } else {
@@ -134,7 +122,7 @@ pub fn check_place(set: &Set, file: &File, z: u32, words: &[u16], regs: &[u16]) 
     ensures answer { result ≡ told (refuse_place (numbers_of set.now) (state_of file.now regs.now) z words.now) }
     ensures least { LeastPlace (numbers_of set.now) (state_of file.now regs.now) z words.now }
 {
-    check_length(0, words.len(), width(set))?;
+    check_length(Layer::File, 0, words.len(), set.cipher_words())?;
     check_memory(1, set, file, regs)?;
     check_named(file, &[z])?;
     check_words(set, words)
@@ -146,7 +134,7 @@ pub fn check_read(set: &Set, file: &File, x: u32, len: usize, regs: &[u16]) -> R
     ensures answer { result ≡ told (refuse_read (numbers_of set.now) (state_of file.now regs.now) x len) }
     ensures least { LeastRead (numbers_of set.now) (state_of file.now regs.now) x len }
 {
-    check_length(0, len, width(set))?;
+    check_length(Layer::File, 0, len, set.cipher_words())?;
     check_memory(1, set, file, regs)?;
     check_registers(file, &[x], &[x])
 }

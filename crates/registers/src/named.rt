@@ -2,7 +2,7 @@ ghost use Rattle.std.specs.Prelude.{◌≡◌, ◌+◌, ◌*◌, ◌<◌, ◌≤
 ghost use Rattle.registers.specs.Registers.{numbers_of, wide, row_at, put_row, remainders, opposite};
 
 use crate::rows::{reduce, turn};
-use crate::sizes::{small, width};
+use crate::sizes::small;
 use set::checked::Set;
 
 // The place of the first word of the register x, of so many.
@@ -11,7 +11,7 @@ fn place_of(set: &Set, count: u32, x: u32) -> usize
     ensures place { result ≡ x * wide (numbers_of set.now) }
     ensures inside { result + wide (numbers_of set.now) ≤ count * wide (numbers_of set.now) }
 {
-    x as usize * width(set)
+    x as usize * set.cipher_words()
 }
 
 // Copies words to the register z, of so many.
@@ -21,7 +21,7 @@ pub fn put_at(set: &Set, count: u32, new: &[u16], regs: &mut [u16], z: u32)
     requires long { length new.now ≡ wide (numbers_of set.now) }
     ensures { regs.new ≡ put_row (numbers_of set.now) z regs.old new.now }
 {
-    let w = width(set);
+    let w = set.cipher_words();
     let at = place_of(set, count, z);
     let row = &mut regs[at..at + w];
     row.copy_from_slice(new);
@@ -34,7 +34,7 @@ pub fn take_at(set: &Set, count: u32, regs: &[u16], x: u32, out: &mut [u16])
     requires long { length out.old ≡ wide (numbers_of set.now) }
     ensures { out.new ≡ remainders (numbers_of set.now) (row_at (wide (numbers_of set.now)) x regs.now) }
 {
-    let w = width(set);
+    let w = set.cipher_words();
     let at = place_of(set, count, x);
     out.copy_from_slice(&regs[at..at + w]);
     reduce(small(set), out);
@@ -47,7 +47,7 @@ pub fn copy_at(set: &Set, count: u32, regs: &mut [u16], x: u32, z: u32)
     requires to { z < count }
     ensures { regs.new ≡ put_row (numbers_of set.now) z regs.old (remainders (numbers_of set.now) (row_at (wide (numbers_of set.now)) x regs.old)) }
 {
-    let w = width(set);
+    let w = set.cipher_words();
     let at = place_of(set, count, z);
     let from = place_of(set, count, x);
     regs.copy_within(from..from + w, at);
@@ -62,7 +62,7 @@ pub fn invert_at(set: &Set, count: u32, regs: &mut [u16], x: u32, z: u32)
     requires to { z < count }
     ensures { regs.new ≡ put_row (numbers_of set.now) z regs.old (opposite (numbers_of set.now) (row_at (wide (numbers_of set.now)) x regs.old)) }
 {
-    let w = width(set);
+    let w = set.cipher_words();
     let at = place_of(set, count, z);
     let from = place_of(set, count, x);
     regs.copy_within(from..from + w, at);

@@ -28,6 +28,15 @@ impl Set {
         self.digits() * self.degree()
     }
 
+    // So many selectors; a sweep takes 2^14 at the most, and more count as so many.
+    pub fn selector_words(&self, count: usize) -> usize
+        ensures value { count ≤ 2 ^ 14 → result ≡ count * self.now.within.numbers.digits * self.now.within.numbers.degree }
+        ensures most { 2 ^ 14 ≤ count → result ≡ 2 ^ 14 * self.now.within.numbers.digits * self.now.within.numbers.degree }
+        ensures few { result ≤ 2 ^ 29 }
+    {
+        count.min(1 << 14) * self.digits() * self.degree()
+    }
+
     // The switch rows.
     pub fn row_words(&self) -> usize
         ensures value { result ≡ self.now.within.numbers.degree * (self.now.within.numbers.places * (self.now.within.numbers.dimension + 1)) }

@@ -5,8 +5,9 @@ ghost use Rattle.kernels.specs.Polynomials.{InRing, poly_of};
 ghost use Rattle.sweeps.specs.External.{Spread, ForDigits, taken_by, taken_words, take_refused};
 ghost use Rattle.sweeps.specs.Layout.{numbers_of, key_long, work_long, key_end, polys_in};
 
-use crate::{lengths, products};
-use faults::fault::Fault;
+use crate::products;
+use faults::fault::{Fault, Layer};
+use faults::lengths::check_length;
 use kernels::kernel::Kernel;
 use kernels::remainders;
 use set::checked::Set;
@@ -76,7 +77,7 @@ fn take_by<K: Kernel>(
     requires scratch { length scratch.old ≡ set.now.within.numbers.degree }
     ensures { acc.new ≡ taken_words (numbers_of set.now) (polys_in K.Kernel.reads set.now set.now.within.numbers.digits key.now) acc.old }
 {
-    let (rows, sum) = work.split_at_mut(key_words(set));
+    let (rows, sum) = work.split_at_mut(set.key_words());
     spread(kernel, set, acc, rows, sum, scratch);
     let taken = Rows {
         kernel,
@@ -88,28 +89,14 @@ fn take_by<K: Kernel>(
     acc.copy_from_slice(sum);
 }
 
-// The words of a key: d polynomials.
-pub(crate) fn key_words(set: &Set) -> usize
-    ensures { result ≡ key_long set.now }
-{
-    set.digits() * set.degree()
-}
-
-// The words of work memory: d digit polynomials and a sum.
-pub(crate) fn work_words(set: &Set) -> usize
-    ensures { result ≡ work_long set.now }
-{
-    (set.digits() + 1) * set.degree()
-}
-
 // The lists of the external product have their lengths.
 fn check_take(set: &Set, acc: usize, key: usize, work: usize, scratch: usize) -> Result<(), Fault>
     ensures { result ≡ told (take_refused (numbers_of set.now) acc key work scratch) }
 {
-    lengths::check_length(0, acc, set.degree())?;
-    lengths::check_length(1, key, key_words(set))?;
-    lengths::check_length(2, work, work_words(set))?;
-    lengths::check_length(3, scratch, set.degree())
+    check_length(Layer::Sweep, 0, acc, set.degree())?;
+    check_length(Layer::Sweep, 1, key, set.key_words())?;
+    check_length(Layer::Sweep, 2, work, set.sweep_words())?;
+    check_length(Layer::Sweep, 3, scratch, set.degree())
 }
 
 // The external product: an accumulator becomes itself taken by a key of d polynomials, kept as forms.

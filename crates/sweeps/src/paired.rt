@@ -172,7 +172,7 @@ impl Step for Paired {
         work: &mut [u32],
         scratch: &mut [u32],
     ) {
-        let (digits, sum) = work.split_at_mut(external::key_words(set));
+        let (digits, sum) = work.split_at_mut(set.key_words());
         external::spread(kernel, set, acc, digits, sum, scratch);
         let rows = Rows {
             kernel,

@@ -3,7 +3,7 @@ ghost use Rattle.gate.specs.Lengths.{begun, wrote, words_of, combine_refused};
 ghost use Rattle.gate.specs.Stages.{combined_of};
 
 use super::Combined;
-use crate::lengths::{check_lengths, words_of};
+use crate::lengths::check_lengths;
 use crate::letter::Letter;
 use crate::vectors::combine_words;
 use faults::fault::Fault;
@@ -46,7 +46,7 @@ pub fn combine(
     ensures answer { result ≡ begun (combine_refused set.now.within.numbers (length x.now) (length y.now) (length out.old)) (record { words = words_of set.now.within.numbers }) }
     ensures out { out.new ≡ wrote result (combined_of set.now.within.numbers letter x.now y.now) out.old }
 {
-    let words = words_of(set);
+    let words = set.cipher_words();
     check_lengths(&[(x.len(), words), (y.len(), words), (out.len(), words)])?;
     Ok(combine_right(set, letter, x, y, out))
 }

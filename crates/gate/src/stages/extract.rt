@@ -3,7 +3,7 @@ ghost use Rattle.gate.specs.Lengths.{staged, wrote, spent, sample_of, extract_re
 ghost use Rattle.gate.specs.Stages.{extracted_of};
 
 use super::{Declined, Extracted, Swept};
-use crate::lengths::{check_lengths, sample_of};
+use crate::lengths::check_lengths;
 use crate::vectors::extract_words;
 use set::checked::Set;
 
@@ -33,7 +33,7 @@ pub fn extract(
     ensures out { out.new ≡ wrote result (extracted_of set.now.within.numbers acc.old) out.old }
 {
     let token = Declined::unless(
-        check_lengths(&[(acc.len(), set.degree()), (out.len(), sample_of(set))]),
+        check_lengths(&[(acc.len(), set.degree()), (out.len(), set.sample_words())]),
         token,
     )?;
     Ok(extract_right(set, acc, out, token))

@@ -3,7 +3,7 @@ ghost use Rattle.gate.specs.Lengths.{staged, wrote, spent, words_of, finish_refu
 ghost use Rattle.gate.specs.Stages.{finished_of};
 
 use super::{Declined, Switched};
-use crate::lengths::{check_lengths, words_of};
+use crate::lengths::check_lengths;
 use crate::vectors::narrow_words;
 use set::checked::Set;
 
@@ -30,7 +30,7 @@ pub fn finish(
     ensures words { words.new ≡ spent result words.old }
     ensures out { out.new ≡ wrote result (finished_of set.now.within.numbers words.old) out.old }
 {
-    let right = words_of(set);
+    let right = set.cipher_words();
     let token = Declined::unless(
         check_lengths(&[(words.len(), right), (out.len(), right)]),
         token,

@@ -3,7 +3,7 @@ ghost use Rattle.gate.specs.Lengths.{staged, wrote, spent, sample_of, narrow_ref
 ghost use Rattle.gate.specs.Stages.{narrowed_of};
 
 use super::{Declined, Extracted, Narrowed};
-use crate::lengths::{check_lengths, sample_of};
+use crate::lengths::check_lengths;
 use crate::vectors::narrow_words;
 use set::checked::Set;
 
@@ -37,7 +37,7 @@ pub fn narrow(
     ensures words { words.new ≡ spent result words.old }
     ensures out { out.new ≡ wrote result (narrowed_of set.now.within.numbers words.old) out.old }
 {
-    let sample = sample_of(set);
+    let sample = set.sample_words();
     let token = Declined::unless(
         check_lengths(&[(words.len(), sample), (out.len(), sample)]),
         token,

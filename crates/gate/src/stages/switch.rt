@@ -3,7 +3,7 @@ ghost use Rattle.gate.specs.Lengths.{staged, wrote, spent, words_of, sample_of, 
 ghost use Rattle.gate.specs.Stages.{switched_of};
 
 use super::{Declined, Narrowed, Switched};
-use crate::lengths::{check_lengths, rows_length, sample_of, words_of};
+use crate::lengths::check_lengths;
 use crate::switching::switch_words;
 use set::checked::Set;
 
@@ -49,9 +49,9 @@ pub fn switch(
 {
     let token = Declined::unless(
         check_lengths(&[
-            (words.len(), sample_of(set)),
-            (out.len(), words_of(set)),
-            (rows.len(), rows_length(set)),
+            (words.len(), set.sample_words()),
+            (out.len(), set.cipher_words()),
+            (rows.len(), set.row_words()),
         ]),
         token,
     )?;

@@ -14,8 +14,8 @@ returns c =
     let regs : List ℕ = c.args.registers.now in
     let x : ℕ = c.args.x in
     let z : ℕ = c.args.z in
-    let e = inverted_register n regs c.copy_within.new.self c.invert_words.new.words x z c.words_of-words.result c.dimension.result c.least.result.value
-    c.requires.x c.requires.z c.words_of-words.ensures.value c.dimension.ensures.value c.least.ensures c.copy_within.ensures.after c.invert_words.ensures in
+    let e = inverted_register n regs c.copy_within.new.self c.invert_words.new.words x z c.cipher_words-words.result c.dimension.result c.least.result.value
+    c.requires.x c.requires.z c.cipher_words-words.ensures.value c.dimension.ensures.value c.least.ensures c.copy_within.ensures.after c.invert_words.ensures in
     record {
       words = e;
       holds = subst (λ (r : List ℕ). InvertHolds c.args.set.now.within (register_at n regs x) r)

@@ -4,11 +4,11 @@ use Rattle.gate.proofs.lengths.check_gate.Goals as goal
 pub returns : goal.returns
 returns c =
     let d = c.degree.ensures.value in
-    let w = c.words_of-words.ensures.value in
-    let k = c.start_length.ensures in
-    let s = c.selectors_length.ensures in
-    let r = c.rows_length.ensures in
-    let g = c.gate_work.ensures in
+    let w = c.cipher_words-words.ensures.value in
+    let k = c.key_words.ensures.value in
+    let s = c.selector_words.ensures.value c.requires in
+    let r = c.row_words.ensures.value in
+    let g = c.gate_words.ensures.value in
     let a = c.check_lengths.ensures.answer in
     record {
       answer = cc (a, d, w, k, s, r, g);

@@ -4,9 +4,9 @@ use Rattle.gate.proofs.lengths.check_start.Goals as goal
 pub returns : goal.returns
 returns c =
     let d = c.degree-degree.ensures.value in
-    let w = c.words_of.ensures.value in
-    let k = c.start_length.ensures in
-    let s = c.sweep_work.ensures.value in
+    let w = c.cipher_words.ensures.value in
+    let k = c.key_words.ensures.value in
+    let s = c.sweep_words.ensures.value in
     let a = c.check_lengths.ensures.answer in
     record {
       answer = cc (a, d, w, k, s);

@@ -4,9 +4,9 @@ use Rattle.gate.proofs.lengths.check_sweep.Goals as goal
 pub returns : goal.returns
 returns c =
     let d = c.degree-degree.ensures.value in
-    let w = c.words_of.ensures.value in
-    let k = c.selectors_length.ensures in
-    let s = c.sweep_work.ensures.value in
+    let w = c.cipher_words.ensures.value in
+    let k = c.selector_words.ensures.value c.requires in
+    let s = c.sweep_words.ensures.value in
     let a = c.check_lengths.ensures.answer in
     record {
       answer = cc (a, d, w, k, s);
