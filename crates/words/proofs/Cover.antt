@@ -1,5 +1,5 @@
 -- The law of the split: under cover every digit is small, and the digits stand for the word but for the dropped part.
-use Rattle.std.proofs.Common.{◌≡◌, ℕ, zero, suc, ◌*◌, ◌/◌, ◌^◌, ◌<◌, ◌≤◌, ◌⊎◌, ℤ, pos, negsuc, ◌+ℤ◌, ◌-ℤ◌, ◌*ℤ◌, neg_ℤ, nat_abs, ◌≤ℤ◌, ◌<ℤ◌, sym, refl, ap, ◌∙◌, inl, inr, mul_assoc, mul-one, arith}
+use Rattle.std.proofs.Common.{◌≡◌, ℕ, zero, suc, ◌*◌, ◌/◌, ◌^◌, ◌<◌, ◌≤◌, ◌⊎◌, ℤ, pos, ◌+ℤ◌, ◌-ℤ◌, ◌*ℤ◌, neg_ℤ, nat_abs, ◌≤ℤ◌, ◌<ℤ◌, sym, refl, ap, ◌∙◌, inl, inr, mul_assoc, mul-one, arith}
 use native.Mathlib.Nat.{pow-succ', pow-zero}
 use Rattle.std.specs.List.{AllByRecursion}
 use Rattle.std.proofs.lemmas.Int.{ints}
@@ -8,7 +8,7 @@ use Rattle.algebra.specs.Ints.{floor_z}
 use Rattle.algebra.specs.Digits.{digit_of, rest_of}
 use Rattle.words.specs.Digits.{centred_of, digits_of, value_of, scaled_of}
 use Rattle.words.specs.Gadgets.{Within, SplitRight}
-use Rattle.words.proofs.Floors.{floor_is, cancel_lt}
+use Rattle.algebra.proofs.Digits.{floor_is, floor_bound}
 use Rattle.words.proofs.Steps.{base_even}
 use Rattle.words.proofs.Centred.{centred_right}
 
@@ -17,16 +17,6 @@ pub digits_value : (B k : ℕ) (u : ℤ) → value_of B (digits_of B (suc k) u) 
 unfolding value_of digits_of
 digits_value B zero u = omega (arith, ints)
 digits_value B (suc k) u = rw (digits_value B k (rest_of B u)) (omega (arith, ints))
-
--- a quotient is as small as what is divided
-pub floor_bound : (P G H : ℕ) (v : ℤ) → G < P → nat_abs v ≤ P * H → nat_abs (floor_z (v +ℤ pos G) P) ≤ H
-floor_bound P G H v g h =
-    let f = floor_is (v +ℤ pos G) P (omega arith) in
-    let a : (pos P *ℤ floor_z (v +ℤ pos G) P) <ℤ (pos P *ℤ pos (suc H)) = omega (arith, ints) in
-    let b : (pos P *ℤ negsuc H) <ℤ (pos P *ℤ floor_z (v +ℤ pos G) P) = omega (arith, ints) in
-    let c : floor_z (v +ℤ pos G) P <ℤ pos (suc H) = cancel_lt P _ _ a in
-    let d : negsuc H <ℤ floor_z (v +ℤ pos G) P = cancel_lt P _ _ b in
-    omega (arith, ints)
 
 within_of : (z : ℤ) (b : ℕ) → nat_abs z ≤ b → Within b z
 within_of z b h = (omega (arith, ints), omega (arith, ints))

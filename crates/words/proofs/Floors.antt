@@ -1,25 +1,10 @@
 -- Division rounded down, over the integers.
 use Rattle.std.proofs.Common.{◌≡◌, ℕ, ◌+◌, ◌-◌, ◌*◌, ◌/◌, ◌^◌, ◌<◌, ◌≤◌, ℤ, pos, negsuc, ◌+ℤ◌, ◌*ℤ◌, ◌≤ℤ◌, ◌<ℤ◌, sym, ap, ◌∙◌, mul-le-mul_left, arith, w64, SFits}
-use native.Mathlib.Decide.{dec_lt}
-use borrow.Author.Differences.{up, down}
 use lib.IntN.{suc_ℤ, *ℤ_comm, +ℤ_one, suc_ℤ-*ℤ}
 use Rattle.std.proofs.lemmas.Int.{ints}
 use Rattle.std.proofs.lemmas.Nat.{div_below, pow-add, pow_pos, div-add-mod'}
 use Rattle.algebra.specs.Ints.{floor_z}
-
--- the quotient leaves less than the divisor
-pub floor_is : (z : ℤ) (b : ℕ) → 0 < b → ((pos b *ℤ floor_z z b) ≤ℤ z) × (z <ℤ (pos b *ℤ floor_z z b +ℤ pos b))
-floor_is (pos a) b h = (omega (arith, ints), omega (arith, ints))
-floor_is (negsuc a) b h = (omega (arith, ints), omega (arith, ints))
-
--- an order divided by a factor
-pub cancel_lt : (b : ℕ) (x y : ℤ) → (pos b *ℤ x) <ℤ (pos b *ℤ y) → x <ℤ y
-cancel_lt b x y h =
-    elim (dec_lt (up x + down y) (up y + down x))
-    [ yes l ↦ omega (arith, ints) | no n ↦ absurd (over (omega (arith, n))) ]
-  where
-    over : up y + down x ≤ up x + down y → ⊥
-    over l = omega (arith, ints, mul-le-mul_left b l)
+use Rattle.algebra.proofs.Digits.{floor_is, cancel_lt}
 
 -- one more times a factor
 pub times_next : (b : ℕ) (x : ℤ) → pos b *ℤ (x +ℤ pos 1) ≡ pos b *ℤ x +ℤ pos b

@@ -7,7 +7,8 @@ use Rattle.std.proofs.lemmas.Nat.{pow_pos, pow_below}
 use Rattle.algebra.specs.Ints.{floor_z}
 use Rattle.algebra.specs.Digits.{rest_of, digit_of}
 use Rattle.words.specs.Gadgets.{StepRight}
-use Rattle.words.proofs.Floors.{floor_is, floor_unique, floor_fits, product_fits, times_next}
+use Rattle.algebra.proofs.Digits.{floor_is}
+use Rattle.words.proofs.Floors.{floor_unique, floor_fits, product_fits, times_next}
 
 -- tests of signed numbers
 less_of : (a b : ℤ) → lt_z a b ≡ true → a <ℤ b
