@@ -27,7 +27,7 @@ fn divide(words: &mut [u32], modulus: u32)
     }
 }
 
-// Each word becomes its remainder by the modulus, with no division where all words lie below. A list of any length is taken.
+// Each word becomes its remainder by the modulus; nothing is divided where all words lie below it.
 pub fn reduce(ring: &Ring, words: &mut [u32])
     ensures same { words.new ≡ reduced (length words.old) ring.now.modulus words.old }
     ensures below { Below ring.now.modulus words.new }
@@ -38,7 +38,7 @@ pub fn reduce(ring: &Ring, words: &mut [u32])
     }
 }
 
-// How a call begins that has `room` words of scratch memory: both lengths are told, and the words become their remainders.
+// How a call begins: the lengths of words and scratch memory are checked, and words become remainders.
 pub fn admit(ring: &Ring, words: &mut [u32], room: usize) -> Result<(), Fault>
     ensures answer { result ≡ answer_to ring.now (length words.old ∷ room ∷ []) }
     ensures words { words.new ≡ after result (poly_of ring.now words.old) words.old }

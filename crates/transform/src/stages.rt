@@ -29,7 +29,7 @@ fn stage(x: &[u32], y: &mut [u32], roots: &Roots)
     requires words { Below roots.now.ring.now.modulus x.now }
     ensures { Staged roots.now.ring.now.modulus roots.now.factors.now x.now y.new (length roots.now.factors.now) }
 {
-    // Counted by hand: chunks_exact_mut(2) was tried, and says nothing of what the slice ends as, so `returns` stayed open.
+    // Counted by hand: with chunks_exact_mut(2) `returns` stays open, as nothing is known of what the slice ends as.
     for j in 0..roots.factors.len() {
         let (even, odd) = butterfly(x, roots, j);
         y[2 * j] = even;
@@ -98,7 +98,7 @@ fn ascend(ring: &Ring, a: &mut [u32], t: &mut [u32])
     ensures { a.new ≡ runs ring.now ring.now.log a.old }
 {
     let log = ring.log;
-    // Counted by hand: k is a number of stages, which forth takes; no list is walked, so there is no plainer form.
+    // Counted by hand: no plainer form, as k counts the stages that forth is told and no list is walked.
     for k in 0..log / 2 {
         forth(ring, 2 * k, a, t);
         forth(ring, 2 * k + 1, t, a);
@@ -116,7 +116,7 @@ pub fn descend(ring: &Ring, a: &mut [u32], t: &mut [u32])
     ensures { a.new ≡ unruns ring.now ring.now.log a.old }
 {
     let log = ring.log;
-    // Counted by hand: k is a number of stages, which aback takes; no list is walked, so there is no plainer form.
+    // Counted by hand: no plainer form, as k counts the stages that aback is told and no list is walked.
     for k in 0..log / 2 {
         aback(ring, log - 1 - 2 * k, a, t);
         aback(ring, log - 2 - 2 * k, t, a);
