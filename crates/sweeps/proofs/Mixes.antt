@@ -1,7 +1,6 @@
 -- (X^j - 1) T added to an accumulator.
-use Rattle.std.proofs.Common.{◌≡◌, ℕ, ◌+◌, ◌-◌, ◌*◌, ◌%◌, ◌<◌, ◌≤◌, Bool, true, false, not, List, length, take, drop, ◌++◌, get_or, ℤ, pos, ◌+ℤ◌, ◌-ℤ◌, neg_ℤ, sym, refl, ap, ◌∙◌, inl, inr, mod-lt, mod-eq_of_lt, arith}
+use Rattle.std.proofs.Common.{◌≡◌, ℕ, ◌+◌, ◌-◌, ◌%◌, ◌<◌, ◌≤◌, Bool, true, false, not, List, length, take, drop, ◌++◌, get_or, ℤ, pos, ◌+ℤ◌, ◌-ℤ◌, neg_ℤ, sym, refl, ap, ◌∙◌, inl, inr, mod-lt, arith}
 use Rattle.std.proofs.lemmas.Int.{ints}
-use Rattle.std.proofs.lemmas.Nat.{mod-mul-add}
 use Rattle.std.proofs.lemmas.List.{get_or_append_left, get_or-append_right, get_or-take, get_or-drop, length-append, length-take-le, length-drop}
 use Rattle.std.proofs.lemmas.Bool.{cases_lt, lt-ltb, le-ltb}
 use Rattle.algebra.specs.Ints.{Cong}
@@ -15,14 +14,6 @@ use Rattle.algebra.proofs.Powers.{power_wrapped, power_upper, power_agree}
 use Rattle.algebra.proofs.Words.{words_same, words_alike}
 use Rattle.sweeps.specs.Mixing.{turned_if, mixed, mixed_poly, MixedEach}
 use Rattle.sweeps.proofs.Filled.{words_fill, words_each}
-
--- remainders of numbers below 2Q
-pub once_over : (x Q : ℕ) → Q ≤ x → x < 2 * Q → x - Q ≡ x % Q
-once_over x Q l h =
-    sym (mod-mul-add 1 Q (x - Q) (omega arith)) ∙ ap (λ (n : ℕ). n % Q) {x = 1 * Q + (x - Q)} {y = x} (omega arith)
-
-pub once_under : (x Q : ℕ) → x < Q → x ≡ x % Q
-once_under x Q l = sym (mod-eq_of_lt l)
 
 -- one word
 pub mix_word : (Q a m s added : ℕ) (back : Bool) → 0 < Q → s < Q → Cong Q (pos added) (turned_if back (pos m))

@@ -1,12 +1,5 @@
-use Rattle.std.proofs.Common.{arith}
 use Rattle.sweeps.proofs.Keeping.{quotient_value, quotient_held}
 use Rattle.sweeps.proofs.held.quotient.Goals as goal
-
-pub overflow_add-result-2 : goal.overflow_add-result-2
-overflow_add-result-2 c =
-    let e = c.half_of.ensures.value in
-    let h = quotient_held c.args.x c.args.width c.args.modulus.value c.args.modulus.high c.requires.width c.requires.held in
-    rw e (omega (arith, h.1))
 
 pub returns : goal.returns
 returns c =

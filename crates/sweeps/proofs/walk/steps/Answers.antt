@@ -1,32 +1,30 @@
-use Rattle.std.proofs.Common.{◌≡◌, ℕ, ◌+◌, ◌*◌, ◌<◌, List, [], ◌∷◌, ◌++◌, length, take, drop, sym, ap, ◌∙◌, arith, rules}
+use Rattle.std.proofs.Common.{◌≡◌, ℕ, ◌+◌, ◌*◌, List, [], ◌∷◌, ◌++◌, length, take, drop, sym, ap, ◌∙◌, arith, rules}
 use Rattle.std.proofs.lemmas.List.{length-append, length-drop}
 use Rattle.sweeps.specs.Forms.{read_rows}
 use Rattle.sweeps.proofs.Rows.{row_ends}
 use Rattle.sweeps.proofs.Walks.{key_ends, part_is, part_left, part_within, round_below, round_last, rounds_few}
 use Rattle.sweeps.proofs.walk.steps.Goals as goal
 
-pub step-requires-clause-keys : goal.step-requires-clause-keys
-step-requires-clause-keys g c =
+pub step-requires : goal.step-requires
+step-requires g c =
     let h = c.in-Some.ensures.steps in
     let v = c.loop-i.invariant in
     let w = c.args.set.now.within in
+    let n = w.numbers in
     let p = g.met.S.Step.parts w in
     let k = length c.loop-i.yielded in
-    let ends = part_within g.S.Step.EXPONENTS k c.args.exponents.now _ _ _ p.0 v.rest h.0.1.0 (h.0.1.1 ∙ v.size) in
+    let size = h.0.1.1 ∙ v.size in
+    let ends = part_within g.S.Step.EXPONENTS k c.args.exponents.now _ _ _ p.0 v.rest h.0.1.0 size in
     let below = round_below g.S.Step.EXPONENTS (g.S.Step.rounds w) k p.0 (omega (arith, ends, c.requires.exponents, p.1)) in
-    let m = key_ends (g.S.Step.last c.in-Some.i) w.numbers.digits w.numbers.degree (g.S.Step.count w) (p.3 c.in-Some.i (omega (arith, below, h.1, v.count))) in
-    omega (arith, m, c.requires.keys)
-
-pub step-requires-clause-few : goal.step-requires-clause-few
-step-requires-clause-few g c =
-    let h = c.in-Some.ensures.steps in
-    let v = c.loop-i.invariant in
-    let w = c.args.set.now.within in
-    let p = g.met.S.Step.parts w in
-    let k = length c.loop-i.yielded in
-    let ends = part_within g.S.Step.EXPONENTS k c.args.exponents.now _ _ _ p.0 v.rest h.0.1.0 (h.0.1.1 ∙ v.size) in
-    let below = round_below g.S.Step.EXPONENTS (g.S.Step.rounds w) k p.0 (omega (arith, ends, c.requires.exponents, p.1)) in
-    omega (arith, below, h.1, v.count, rounds_few g.S.Step.EXPONENTS (g.S.Step.rounds w) p.0, p.1, w.lengths)
+    let here : c.in-Some.i ≡ k = h.1 ∙ v.count in
+    record {
+      acc = v.poly;
+      exponents = size;
+      keys = omega (arith, key_ends (g.S.Step.last c.in-Some.i) n.digits n.degree (g.S.Step.count w) (p.3 c.in-Some.i (omega (arith, below, here))), c.requires.keys);
+      work = omega (arith, c.requires.work);
+      scratch = omega (arith, c.requires.scratch);
+      few = omega (arith, below, here, rounds_few g.S.Step.EXPONENTS (g.S.Step.rounds w) p.0, p.1, w.lengths);
+    }
 
 pub loop-i-preserved : goal.loop-i-preserved
 loop-i-preserved g c =
