@@ -16,6 +16,7 @@ use sweeps::sweep::Sweep;
 use words::guard::Wiped;
 
 // The gate of two ciphertexts. Their words count as remainders, and the result has n + 1 words below q.
+// Kept: work memory is three parameters, since a contract speaks of what a struct of `&mut` leaves only as `.exit.1.0.now`.
 pub fn gate<K: Kernel, S: Sweep>(
     kernel: &K,
     sweep: &S,

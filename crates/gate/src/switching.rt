@@ -84,6 +84,7 @@ fn begin(last: usize, word: u32, out: &mut [u32])
 }
 
 // Each word becomes its remainder.
+// Kept: kernels has this loop for words of a ring alone; a public function for the one line would be no plainer.
 fn settle(modulus: Modulus, out: &mut [u32])
     ensures { out.new ≡ reduced (length out.old) modulus.value out.old }
 {

@@ -16,6 +16,7 @@ pub fn minus(head: u32, number: u32, modulus: Modulus) -> u32
 }
 
 // The number at the last place, and 0 at the others.
+// Kept: the last place apart would be a second line with the same difference in both loops, which is no plainer.
 fn at_last(i: usize, last: usize, head: u32) -> u32
     ensures { result ≡ (if nat_eq i last then head else 0) }
 {

@@ -1,9 +1,6 @@
-use Rattle.std.proofs.Common.{◌≡◌, ℕ, suc, ◌+◌, ◌-◌, ◌*◌, List, ◌++◌, length, take, drop, sym, ap, ◌∙◌, subst, ap₂, arith}
-use lib.Seq.{paste}
-use Rattle.algebra.specs.Gates.{invert}
-use Rattle.gate.specs.Lengths.{words_of}
+use Rattle.std.proofs.Common.{ℕ, List, sym, ap, ◌∙◌, subst}
 use Rattle.gate.specs.Stages.{inverted_of}
-use Rattle.gate.specs.Gates.{InvertHolds, register_at, with_register}
+use Rattle.gate.specs.Gates.{InvertHolds, register_at}
 use Rattle.gate.proofs.Opposite.{inverts, invert_long, inverted_register}
 use Rattle.gate.proofs.Reach.{register_new}
 use Rattle.gate.proofs.in_place.invert_at_right.Goals as goal
