@@ -1,6 +1,7 @@
-ghost use Rattle.std.specs.Prelude.{◌≡◌, ◌*◌, ◌^◌, ◌<◌, ◌≤◌, length, OnOk};
+ghost use Rattle.std.specs.Prelude.{◌≡◌, ◌+◌, ◌*◌, ◌^◌, ◌<◌, ◌≤◌, length, OnOk};
 
 use faults::fault::{Fault, Layer};
+use set::checked::Set;
 
 // Refuses a list whose length is not right.
 pub fn expect_length(part: Layer, list: u32, len: usize, right: usize) -> Result<(), Fault>
@@ -25,15 +26,20 @@ pub fn expect_lengths(part: Layer, lengths: &[(usize, usize)]) -> Result<(), Fau
     }
 }
 
-// The words of the digits of a polynomial.
-pub fn digit_words(digits: usize, degree: usize) -> usize
-    requires digits { digits ≤ 31 }
-    requires degree { degree ≤ 1024 }
-    ensures value { result ≡ digits * degree }
-    ensures some { 0 < digits → 0 < degree → 0 < result }
-    ensures bound { result ≤ 2 ^ 15 }
+// The words of a key: a polynomial for each digit.
+pub fn key_words(set: &Set) -> usize
+    ensures value { result ≡ set.now.within.numbers.digits * set.now.within.numbers.degree }
+    ensures range { (0 < result) × (result ≤ 2 ^ 15) }
 {
-    digits * degree
+    set.digits() * set.degree()
+}
+
+// The words of the switch rows of one entry of f: a row for each place.
+pub fn entry_words(set: &Set) -> usize
+    ensures value { result ≡ set.now.within.numbers.places * (set.now.within.numbers.dimension + 1) }
+    ensures range { (0 < result) × (result ≤ 2 ^ 15) }
+{
+    set.places() * (set.dimension() + 1)
 }
 
 // The words of rows of words.

@@ -1,6 +1,6 @@
 ghost use Rattle.std.specs.Prelude.{◌^◌, ◌≤◌, length};
 
-use crate::lengths::{area, digit_words, expect_length, expect_lengths};
+use crate::lengths::{area, entry_words, expect_length, expect_lengths, key_words};
 use crate::modular::{plus, put_residues, residue, times};
 use crate::secrets::{check_sample, check_samples, check_secret, masked};
 use faults::fault::{Fault, Layer};
@@ -33,7 +33,7 @@ pub struct KeyMemory {
 impl KeyMemory {
     // Memory of the lengths that the set asks for, all zeros.
     pub fn new<S: Sweep>(heap: Global, set: &Set) -> Result<KeyMemory, AllocError> {
-        let size = digit_words(set.digits(), set.degree());
+        let size = key_words(set);
         let selectors = area(S::selectors(&set.within), size);
         let rows = row_words(set);
         Ok(KeyMemory {
@@ -63,14 +63,14 @@ enum Held<'a> {
 fn row_words(set: &Set) -> usize
     ensures { result ≤ 2 ^ 34 }
 {
-    area(set.degree(), digit_words(set.places(), set.dimension() + 1))
+    area(set.degree(), entry_words(set))
 }
 
 // How many samples the noises of the start key and of the selectors take, and how many the switch rows.
 pub fn sample_counts<S: Sweep>(set: &Set) -> (usize, usize)
     ensures { (result.0 ≤ 2 ^ 34) × (result.1 ≤ 2 ^ 34) }
 {
-    let size = digit_words(set.digits(), set.degree());
+    let size = key_words(set);
     (area(S::selectors(&set.within) + 1, size), row_words(set))
 }
 
@@ -87,7 +87,7 @@ pub fn make_keys<S: Sweep>(
     let noise = Wiped { words: noise };
     let product = Wiped { words: product };
     let n = set.degree();
-    let size = digit_words(set.digits(), n);
+    let size = key_words(set);
     let (noise_count, row_count) = sample_counts::<S>(set);
     let lengths = [
         (secrets.f.len(), n),
@@ -192,7 +192,7 @@ fn make_selectors<S: Sweep>(
     noise: &mut [u32],
     message: &mut [u32],
 ) -> Result<(), Fault> {
-    let size = digit_words(set.digits(), set.degree());
+    let size = key_words(set);
     let keys = noises
         .chunks_exact(size)
         .zip(selectors.chunks_exact_mut(size));
@@ -259,7 +259,7 @@ fn multiply(ring: &Ring, a: &[u32], b: &[u32], out: &mut [u32]) -> Result<(), Fa
 
 // Makes the switch rows: for each entry of f as many as the set has places.
 fn make_rows(set: &Set, secrets: Secrets<'_>, samples: &[i32], rows: &mut [u32]) {
-    let size = digit_words(set.places(), set.dimension() + 1);
+    let size = entry_words(set);
     let parts = samples.chunks_exact(size).zip(rows.chunks_exact_mut(size));
     for (entry, (samples, rows)) in secrets.f.iter().zip(parts) {
         let message = residue(*entry as i64, set.middle());

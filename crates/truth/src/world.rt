@@ -1,6 +1,6 @@
 use crate::forms::turn_all;
 use crate::generator::Generator;
-use crate::lengths::digit_words;
+use crate::lengths::key_words;
 use crate::maker::{KeyMemory, make_keys, sample_counts};
 use crate::seal::{open, seal};
 use crate::toy::{SECRETS, TOY};
@@ -97,7 +97,7 @@ impl World {
     fn empty(heap: Global, set: Set) -> Result<World, AllocError> {
         let n = set.degree();
         let ciphertext = set.dimension() + 1;
-        let work = digit_words(set.digits(), n) + 4 * n + ciphertext + 2;
+        let work = key_words(&set) + 4 * n + ciphertext + 2;
         let randoms = set.dimension();
         let keys = KeyMemory::new::<Paired>(heap, &set)?;
         Ok(World {
