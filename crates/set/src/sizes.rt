@@ -23,7 +23,7 @@ impl Set {
     // d polynomials: the start key, or one selector.
     pub fn key_words(&self) -> usize
         ensures value { result ≡ self.now.within.numbers.digits * self.now.within.numbers.degree }
-        ensures few { result ≤ 31 * 1024 }
+        ensures range { (16 ≤ result) × (result ≤ 31 * 1024) }
     {
         self.digits() * self.degree()
     }

@@ -1,9 +1,10 @@
 ghost use Rattle.std.specs.Prelude.{◌^◌, ◌≤◌, length};
 
-use crate::lengths::{area, entry_words, expect_length, expect_lengths, key_words};
+use crate::lengths::{entry_words, expect_lengths};
 use crate::modular::{plus, put_residues, residue, times};
 use crate::secrets::{check_sample, check_samples, check_secret, masked};
 use faults::fault::{Fault, Layer};
+use faults::lengths::check_length;
 use gate::keys::Keys;
 use kernels::kernel::Kernel;
 use kernels::plain::Plain;
@@ -33,9 +34,9 @@ pub struct KeyMemory {
 impl KeyMemory {
     // Memory of the lengths that the set asks for, all zeros.
     pub fn new<S: Sweep>(heap: Global, set: &Set) -> Result<KeyMemory, AllocError> {
-        let size = key_words(set);
-        let selectors = area(S::selectors(&set.within), size);
-        let rows = row_words(set);
+        let size = set.key_words();
+        let selectors = set.selector_words(S::selectors(&set.within));
+        let rows = set.row_words();
         Ok(KeyMemory {
             start: vec![in heap; 0; size]?,
             selectors: vec![in heap; 0; selectors]?,
@@ -59,19 +60,12 @@ enum Held<'a> {
     Message(&'a [u32]),
 }
 
-// The words of the switch rows.
-fn row_words(set: &Set) -> usize
-    ensures { result ≤ 2 ^ 34 }
-{
-    area(set.degree(), entry_words(set))
-}
-
 // How many samples the noises of the start key and of the selectors take, and how many the switch rows.
 pub fn sample_counts<S: Sweep>(set: &Set) -> (usize, usize)
     ensures { (result.0 ≤ 2 ^ 34) × (result.1 ≤ 2 ^ 34) }
 {
-    let size = key_words(set);
-    (area(S::selectors(&set.within) + 1, size), row_words(set))
+    let selectors = set.selector_words(S::selectors(&set.within));
+    (set.key_words() + selectors, set.row_words())
 }
 
 // Makes the polynomials of the start key and of the selectors, and the switch rows. The samples are the noises of each
@@ -87,7 +81,7 @@ pub fn make_keys<S: Sweep>(
     let noise = Wiped { words: noise };
     let product = Wiped { words: product };
     let n = set.degree();
-    let size = key_words(set);
+    let size = set.key_words();
     let (noise_count, row_count) = sample_counts::<S>(set);
     let lengths = [
         (secrets.f.len(), n),
@@ -95,7 +89,7 @@ pub fn make_keys<S: Sweep>(
         (secrets.s.len(), set.dimension()),
         (samples.len(), noise_count + row_count),
         (keys.start.len(), size),
-        (keys.selectors.len(), area(S::selectors(&set.within), size)),
+        (keys.selectors.len(), set.selector_words(S::selectors(&set.within))),
         (keys.rows.len(), row_count),
         (noise.words.len(), n),
         (product.words.len(), n),
@@ -144,7 +138,7 @@ fn check_inverse(
     words: &mut [u32],
     product: &mut [u32],
 ) -> Result<(), Fault> {
-    expect_length(Layer::Secrets, 8, product.len(), set.degree())?;
+    check_length(Layer::Secrets, 8, product.len(), set.degree())?;
     put_residues(secrets.f, set.wide(), words);
     multiply(&set.ring, words, secrets.inverse, product)?;
     check_unit(product)
@@ -192,7 +186,7 @@ fn make_selectors<S: Sweep>(
     noise: &mut [u32],
     message: &mut [u32],
 ) -> Result<(), Fault> {
-    let size = key_words(set);
+    let size = set.key_words();
     let keys = noises
         .chunks_exact(size)
         .zip(selectors.chunks_exact_mut(size));

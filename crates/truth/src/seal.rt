@@ -1,9 +1,9 @@
 ghost use Rattle.std.specs.Prelude.{◌≤◌, length};
 
-use crate::lengths::expect_length;
 use crate::modular::{inner, plus, residue};
 use crate::secrets::{check_sample, check_samples, check_secret, masked};
 use faults::fault::{Fault, Layer};
+use faults::lengths::check_length;
 use set::checked::Set;
 
 // A ciphertext of a bit under the small secret, of random words below q and a noise from -β to β.
@@ -18,9 +18,9 @@ pub fn seal(
     let n = set.dimension();
     let q = set.least();
     let bound = set.within.numbers.bound as i32;
-    expect_length(Layer::Secrets, 0, secret.len(), n)?;
-    expect_length(Layer::Secrets, 1, randoms.len(), n)?;
-    expect_length(Layer::Secrets, 3, out.len(), n + 1)?;
+    check_length(Layer::Secrets, 0, secret.len(), n)?;
+    check_length(Layer::Secrets, 1, randoms.len(), n)?;
+    check_length(Layer::Secrets, 3, out.len(), n + 1)?;
     check_secret(0, secret, 0..=1, set.within.numbers.ones)?;
     check_samples(1, randoms, 0..=q.get() as i32 - 1)?;
     check_sample(2, 0, noise, -bound..=bound)?;
@@ -37,8 +37,8 @@ pub fn open(set: &Set, ciphertext: &[u16], secret: &[i32]) -> Result<bool, Fault
     let n = set.dimension();
     let modulus = set.least();
     let q = modulus.get();
-    expect_length(Layer::Secrets, 0, ciphertext.len(), n + 1)?;
-    expect_length(Layer::Secrets, 1, secret.len(), n)?;
+    check_length(Layer::Secrets, 0, ciphertext.len(), n + 1)?;
+    check_length(Layer::Secrets, 1, secret.len(), n)?;
     check_ciphertext(ciphertext, q)?;
     check_secret(1, secret, 0..=1, set.within.numbers.ones)?;
     let phase = plus(

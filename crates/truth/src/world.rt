@@ -1,12 +1,12 @@
 use crate::forms::turn_all;
 use crate::generator::Generator;
-use crate::lengths::key_words;
 use crate::maker::{KeyMemory, make_keys, sample_counts};
 use crate::seal::{open, seal};
 use crate::toy::{SECRETS, TOY};
 use faults::fault::Fault;
 use gate::bootstrap::gate;
 use gate::letter::{Letter, NotALetter};
+use gate::sizes::gate_words;
 use set::checked::Set;
 use std::alloc::{AllocError, Global};
 use std::io;
@@ -96,8 +96,8 @@ impl World {
     // Memory of the lengths that the set asks for, all zeros.
     fn empty(heap: Global, set: Set) -> Result<World, AllocError> {
         let n = set.degree();
-        let ciphertext = set.dimension() + 1;
-        let work = key_words(&set) + 4 * n + ciphertext + 2;
+        let ciphertext = set.cipher_words();
+        let work = gate_words(&set);
         let randoms = set.dimension();
         let keys = KeyMemory::new::<Paired>(heap, &set)?;
         Ok(World {
