@@ -47,21 +47,3 @@ lengths_least N ls =
     (λ g h. (h.0, (h.1.0, (named (0 + h.0) h.0 g (omega arith) h.1.1.0, h.1.1.1))))
     (λ g h. (h.0, (h.1.0, (named h.0 (0 + h.0) g (omega arith) h.1.1.0, h.1.1.1))))
     (least_from N 0 ls)
-
--- it stands where the first other length is found
-wrong_next : (s : ℕ) (b : Bool) (f : Option Fault) (o : Option ℕ) → f ≡ option_map (λ (i : ℕ). Length i Kernel) o
-    → or_else (unless b (Length s Kernel)) f ≡ option_map (λ (i : ℕ). Length i Kernel) (cond (not b) (Some s) o)
-wrong_next s true f o e = e
-wrong_next s false f o e = refl
-
-wrong_found : (N s : ℕ) (ls : List ℕ)
-    → wrong_length N s ls ≡ option_map (λ (i : ℕ). Length i Kernel) (position_from (λ l. not (eqb l N)) s ls)
-wrong_found N s [] = refl
-wrong_found N s (l ∷ ls) =
-    wrong_next s (eqb l N) (wrong_length N (s + 1) ls) (position_from (λ l. not (eqb l N)) (s + 1) ls) (wrong_found N (s + 1) ls)
-
--- o is where it was found
-pub answer_found : (N : ℕ) (ls : List ℕ) (p o : Option ℕ) → p ≡ position_from (λ l. not (eqb l N)) 0 ls → p ≡ o
-    → told (option_map (λ (i : ℕ). Length i Kernel) o) ≡ told (wrong_length N 0 ls)
-answer_found N ls p o e is =
-    ap (λ (i : Option ℕ). told (option_map (λ (j : ℕ). Length j Kernel) i)) (sym is ∙ e) ∙ sym (ap told (wrong_found N 0 ls))

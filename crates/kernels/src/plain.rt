@@ -43,7 +43,7 @@ impl Kernel for Plain {
     }
 
     fn fold(&self, ring: &Ring, acc: &mut [u32], left: &[u32], right: &[u32]) -> Result<(), Fault> {
-        lengths::check(ring, &[acc.len(), left.len(), right.len()])?;
+        lengths::check_fold(ring, acc.len(), left.len(), right.len())?;
         schoolbook::fuse(ring, acc, left, right);
         Ok(())
     }

@@ -44,7 +44,7 @@ pub fn admit(ring: &Ring, words: &mut [u32], room: usize) -> Result<(), Fault>
     ensures words { words.new ≡ after result (poly_of ring.now words.old) words.old }
     ensures poly { OnOk result (InRing ring.now words.new) }
 {
-    lengths::check(ring, &[words.len(), room])?;
+    lengths::check_turn(ring, words.len(), room)?;
     reduce(ring, words);
     Ok(())
 }

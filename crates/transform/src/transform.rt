@@ -28,7 +28,7 @@ impl Kernel for Transform {
     }
 
     fn fold(&self, ring: &Ring, acc: &mut [u32], left: &[u32], right: &[u32]) -> Result<(), Fault> {
-        lengths::check(ring, &[acc.len(), left.len(), right.len()])?;
+        lengths::check_fold(ring, acc.len(), left.len(), right.len())?;
         pointwise::fold_forms(ring, acc, left, right);
         Ok(())
     }
