@@ -30,6 +30,7 @@ fn selector_words(set: &Set, count: usize) -> usize
 }
 
 // The lists of a sweep of `count` selectors have their lengths.
+// Kept: five lengths, since three of the lists are lent to guards or as `&mut`.
 pub(crate) fn check_sweep(
     set: &Set,
     count: usize,
