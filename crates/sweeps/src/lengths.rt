@@ -8,6 +8,7 @@ use set::checked::Set;
 use set::within::Within;
 
 // The lists of a sweep of `count` selectors have their lengths.
+// Kept: five lengths, since three of the lists are lent to guards or as `&mut`.
 pub(crate) fn check_sweep(
     set: &Set,
     count: usize,

@@ -38,6 +38,7 @@ pub(crate) trait Step {
 
     ghost run: { Numbers → List ℕ → List (List ℕ) → List ℕ → List ℕ };
 
+    // Kept: eight parameters, since a `&mut` in a struct makes its clauses longer, and kernel and set in one put a field before each `set.now`.
     fn step<K: Kernel>(
         kernel: &K,
         set: &Set,
