@@ -1,6 +1,5 @@
 -- A list of orders, order by order.
-use Rattle.std.proofs.Common.{◌≡◌, ℕ, ◌+◌, ◌<◌, ◌≤◌, List, [], ◌∷◌, length, get_or, drop, Some, None, Option, sym, refl, ap, ◌∙◌, arith, length-drop}
-use Rattle.std.proofs.lemmas.List.{drop_more, drop_all}
+use Rattle.std.proofs.Common.{◌≡◌, ℕ, ◌+◌, ◌<◌, ◌≤◌, List, [], ◌∷◌, length, get_or, take, drop, Some, None, Option, sym, refl, ap, ◌∙◌, arith}
 use Rattle.faults.specs.declared.fault.Fault.{Fault}
 use Rattle.faults.specs.declared.fault.Fault.TheVariants.{Order}
 use Rattle.set.specs.declared.numbers.Numbers.{Numbers}
@@ -13,27 +12,21 @@ use Rattle.calls.specs.Calls.{refuse_by, orders_of}
 use Rattle.calls.proofs.Ordering.{orders_are_calls}
 
 -- the next four bytes
-cut4 : (xs : List ℕ) (at : ℕ) → at + 4 ≤ length xs
-    → drop at xs ≡ get_or xs at 0 ∷ (get_or xs (at + 1) 0 ∷ (get_or xs (at + 2) 0 ∷ (get_or xs (at + 3) 0 ∷ drop (at + 4) xs)))
-cut4 xs at h =
-    let d0 = drop_more xs at 0 (omega arith) in
-    let d1 = drop_more xs (at + 1) 0 (omega arith) in
-    let d2 = drop_more xs (at + 2) 0 (omega arith) in
-    let d3 = drop_more xs (at + 3) 0 (omega arith) in
-    let e1 : at + 1 + 1 ≡ at + 2 = omega arith in
-    let e2 : at + 2 + 1 ≡ at + 3 = omega arith in
-    let e3 : at + 3 + 1 ≡ at + 4 = omega arith in
-    cc
+cut4 : (xs : List ℕ) → 4 ≤ length xs
+    → xs ≡ get_or (take 4 xs) 0 0 ∷ (get_or (take 4 xs) 1 0 ∷ (get_or (take 4 xs) 2 0 ∷ (get_or (take 4 xs) 3 0 ∷ drop 4 xs)))
+cut4 [] h = absurd (omega arith)
+cut4 (l ∷ []) h = absurd (omega arith)
+cut4 (l ∷ (x ∷ [])) h = absurd (omega arith)
+cut4 (l ∷ (x ∷ (y ∷ []))) h = absurd (omega arith)
+cut4 (l ∷ (x ∷ (y ∷ (z ∷ rest)))) h = refl
+
+pub four : (xs chunk rest : List ℕ) → chunk ≡ take 4 xs → rest ≡ drop 4 xs → length rest + 4 ≡ length xs
+    → xs ≡ get_or chunk 0 0 ∷ (get_or chunk 1 0 ∷ (get_or chunk 2 0 ∷ (get_or chunk 3 0 ∷ rest)))
+four xs chunk rest a b h = let e = cut4 xs (omega arith) in cc
 
 parsed_four : (l x y z : ℕ) (rest : List ℕ) → parsed (l ∷ x ∷ y ∷ z ∷ rest) ≡ order_of l x y z ∷ parsed rest
 unfolding parsed
 parsed_four l x y z rest = refl
-
-parsed_at : (xs : List ℕ) (at : ℕ) (o : Option Op) → at + 4 ≤ length xs → o ≡ order_of (get_or xs at 0) (get_or xs (at + 1) 0) (get_or xs (at + 2) 0) (get_or xs (at + 3) 0)
-    → parsed (drop at xs) ≡ o ∷ parsed (drop (at + 4) xs)
-parsed_at xs at o h e =
-    ap parsed (cut4 xs at h) ∙ parsed_four (get_or xs at 0) (get_or xs (at + 1) 0) (get_or xs (at + 2) 0) (get_or xs (at + 3) 0) (drop (at + 4) xs)
-    ∙ ap (λ (v : Option Op). v ∷ parsed (drop (at + 4) xs)) (sym e)
 
 parsed_short : (ys : List ℕ) → 0 < length ys → length ys < 4 → parsed ys ≡ None ∷ []
 unfolding parsed
@@ -43,43 +36,39 @@ parsed_short (l ∷ (x ∷ [])) a b = refl
 parsed_short (l ∷ (x ∷ (y ∷ []))) a b = refl
 parsed_short (l ∷ (x ∷ (y ∷ (z ∷ rest)))) a b = absurd (omega arith)
 
-parsed_none : parsed [] ≡ []
+parsed_none : (ys : List ℕ) → length ys ≡ 0 → parsed ys ≡ []
 unfolding parsed
-parsed_none = refl
+parsed_none [] e = refl
+parsed_none (y ∷ ys) e = absurd (omega arith)
 
 module _ (gates : Gates) (m : Numbers) (count : ℕ) (lists : Lists) where
-  -- the orders from place `at` on, of which c ran before
-  abbrev pub from : List ℕ → ℕ → ℕ → State → Ending State
-  from xs at c s = ordered State (refuse_by m count lists) (done_op gates m) c s (parsed (drop at xs))
+  -- the orders that are left, of which c ran before
+  abbrev pub from : ℕ → State → List ℕ → Ending State
+  from c s left = ordered State (refuse_by m count lists) (done_op gates m) c s (parsed left)
 
-  module _ (xs : List ℕ) (at c : ℕ) (s : State) where
-    at-order : (o : Option Op) → at + 4 ≤ length xs → o ≡ order_of (get_or xs at 0) (get_or xs (at + 1) 0) (get_or xs (at + 2) 0) (get_or xs (at + 3) 0)
-        → from xs at c s ≡ ordered State (refuse_by m count lists) (done_op gates m) c s (o ∷ parsed (drop (at + 4) xs))
-    at-order o h e = ap (ordered State (refuse_by m count lists) (done_op gates m) c s) (parsed_at xs at o h e)
+  module _ (c : ℕ) (s : State) (left : List ℕ) where
+    module _ (l x y z : ℕ) (rest : List ℕ) (is : left ≡ l ∷ (x ∷ (y ∷ (z ∷ rest)))) where
+      next-order : (o : Option Op) → o ≡ order_of l x y z → from c s left ≡ ordered State (refuse_by m count lists) (done_op gates m) c s (o ∷ parsed rest)
+      next-order o e =
+          ap (ordered State (refuse_by m count lists) (done_op gates m) c s)
+          (ap parsed is ∙ parsed_four l x y z rest ∙ ap (λ (v : Option Op). v ∷ parsed rest) (sym e))
 
-    pub runs_on : (op : Op) → at + 4 ≤ length xs → Some op ≡ order_of (get_or xs at 0) (get_or xs (at + 1) 0) (get_or xs (at + 2) 0) (get_or xs (at + 3) 0)
-        → refuse_by m count lists s op ≡ None → from xs at c s ≡ from xs (at + 4) (c + 1) (done_op gates m s op)
-    runs_on op h e none =
-        at-order (Some op) h e ∙ ap (λ (r : Option Fault). onward r s c (from xs (at + 4) (c + 1) (done_op gates m s op))) none
+      pub runs_on : (op : Op) → Some op ≡ order_of l x y z → refuse_by m count lists s op ≡ None → from c s left ≡ from (c + 1) (done_op gates m s op) rest
+      runs_on op e none = next-order (Some op) e ∙ ap (λ (r : Option Fault). onward r s c (from (c + 1) (done_op gates m s op) rest)) none
 
-    pub refused-at : (op : Op) (f : Fault) → at + 4 ≤ length xs → Some op ≡ order_of (get_or xs at 0) (get_or xs (at + 1) 0) (get_or xs (at + 2) 0) (get_or xs (at + 3) 0)
-        → refuse_by m count lists s op ≡ Some f → from xs at c s ≡ ending s c (Some f)
-    refused-at op f h e some =
-        at-order (Some op) h e ∙ ap (λ (r : Option Fault). onward r s c (from xs (at + 4) (c + 1) (done_op gates m s op))) some
+      pub refused-at : (op : Op) (f : Fault) → Some op ≡ order_of l x y z → refuse_by m count lists s op ≡ Some f → from c s left ≡ ending s c (Some f)
+      refused-at op f e some = next-order (Some op) e ∙ ap (λ (r : Option Fault). onward r s c (from (c + 1) (done_op gates m s op) rest)) some
 
-    pub unknown-at : at + 4 ≤ length xs → None ≡ order_of (get_or xs at 0) (get_or xs (at + 1) 0) (get_or xs (at + 2) 0) (get_or xs (at + 3) 0)
-        → from xs at c s ≡ ending s c (Some (Order c))
-    unknown-at h e = at-order None h e
+      pub unknown-at : None ≡ order_of l x y z → from c s left ≡ ending s c (Some (Order c))
+      unknown-at e = next-order None e
 
-    pub broken-off : at < length xs → length xs < at + 4 → from xs at c s ≡ ending s c (Some (Order c))
-    broken-off a b =
-        let e = length-drop at xs in
-        ap (ordered State (refuse_by m count lists) (done_op gates m) c s) (parsed_short (drop at xs) (omega arith) (omega arith))
+    pub broken-off : 0 < length left → length left < 4 → from c s left ≡ ending s c (Some (Order c))
+    broken-off a b = ap (ordered State (refuse_by m count lists) (done_op gates m) c s) (parsed_short left a b)
 
-    pub all-ran : length xs ≤ at → from xs at c s ≡ ending s c None
-    all-ran a = ap (ordered State (refuse_by m count lists) (done_op gates m) c s) (ap parsed (drop_all at xs a) ∙ parsed_none)
+    pub all-ran : length left ≡ 0 → from c s left ≡ ending s c None
+    all-ran e = ap (ordered State (refuse_by m count lists) (done_op gates m) c s) (parsed_none left e)
 
-  pub orders_from : (xs : List ℕ) (s : State) → orders_of gates m count lists s xs ≡ from xs 0 0 s
+  pub orders_from : (xs : List ℕ) (s : State) → orders_of gates m count lists s xs ≡ from 0 s xs
   unfolding orders_of
   orders_from xs s = refl
 

@@ -1,5 +1,6 @@
 -- What the answer of one call tells of its refusal.
-use Rattle.std.proofs.Common.{◌≡◌, ℕ, ◌+◌, ◌≤◌, List, length, get_or, Some, None, Ok, Err, Option, sym, refl, ap, ◌∙◌, arith}
+use Rattle.std.proofs.Common.{◌≡◌, ℕ, ◌+◌, List, ◌∷◌, length, Some, None, Ok, Err, Option, sym, refl, ap, ◌∙◌, arith}
+use Rattle.std.specs.Option.{ok_or}
 use Rattle.faults.specs.declared.fault.Fault.{Fault}
 use Rattle.faults.specs.Least.{told}
 use Rattle.set.specs.declared.numbers.Numbers.{Numbers}
@@ -19,6 +20,15 @@ pub err_some : (r : Option Fault) (f : Fault) → Err f ≡ told r → r ≡ Som
 err_some None f e = absurd (let z : ◌≡◌ {A = ℕ} 0 1 = cc in omega arith)
 err_some (Some g) f e = cc
 
+-- what `ok_or` tells of an option
+pub none_told : {A : Type 0} (o : Option A) (f g : Fault) → Err f ≡ ok_or o g → (o ≡ None) × (f ≡ g)
+none_told None f g e = (refl, cc)
+none_told (Some a) f g e = absurd (let z : ◌≡◌ {A = ℕ} 0 1 = cc in omega arith)
+
+pub some_told : {A : Type 0} (o : Option A) (a : A) (g : Fault) → Ok a ≡ ok_or o g → Some a ≡ o
+some_told None a g e = absurd (let z : ◌≡◌ {A = ℕ} 0 1 = cc in omega arith)
+some_told (Some b) a g e = cc
+
 -- lists as long as they were
 pub lists_stay : (start selectors rows small work scratch small' work' scratch' : List ℕ)
     → length small ≡ length small' → length work ≡ length work' → length scratch ≡ length scratch'
@@ -26,19 +36,19 @@ pub lists_stay : (start selectors rows small work scratch small' work' scratch' 
 lists_stay start selectors rows small work scratch small' work' scratch' a b c = cc
 
 -- one turn of the runner: an order that runs, and one that is refused
-module _ (gates : Gates) (m : Numbers) (count : ℕ) (lists same : Lists) (e : same ≡ lists) (all : Ending State) (xs : List ℕ) (at c : ℕ) (s after : State) (op : Op)
-    (room : at + 4 ≤ length xs) (is : Some op ≡ order_of (get_or xs at 0) (get_or xs (at + 1) 0) (get_or xs (at + 2) 0) (get_or xs (at + 3) 0))
-    (left : after ≡ either (refuse_by m count same s op) s (done_op gates m s op)) (inv : all ≡ from gates m count lists xs at c s) where
-  pub turn_on : (u : Unit {0}) → Ok u ≡ told (refuse_by m count same s op) → all ≡ from gates m count lists xs (at + 4) (c + 1) after
+module _ (gates : Gates) (m : Numbers) (count : ℕ) (lists same : Lists) (e : same ≡ lists) (all : Ending State) (c : ℕ) (s after : State) (xs rest : List ℕ) (l x y z : ℕ) (op : Op)
+    (is : xs ≡ l ∷ (x ∷ (y ∷ (z ∷ rest)))) (named : Some op ≡ order_of l x y z)
+    (left : after ≡ either (refuse_by m count same s op) s (done_op gates m s op)) (inv : all ≡ from gates m count lists c s xs) where
+  pub turn_on : (u : Unit {0}) → Ok u ≡ told (refuse_by m count same s op) → all ≡ from gates m count lists (c + 1) after rest
   turn_on u h =
       let none = ok_none (refuse_by m count same s op) u h in
       inv
-      ∙ runs_on gates m count lists xs at c s op room is (ap (λ (l : Lists). refuse_by m count l s op) (sym e) ∙ none)
-      ∙ ap (from gates m count lists xs (at + 4) (c + 1)) (sym (left ∙ ap (λ (r : Option Fault). either r s (done_op gates m s op)) none))
+      ∙ runs_on gates m count lists c s xs l x y z rest is op named (ap (λ (v : Lists). refuse_by m count v s op) (sym e) ∙ none)
+      ∙ ap (λ (v : State). from gates m count lists (c + 1) v rest) (sym (left ∙ ap (λ (r : Option Fault). either r s (done_op gates m s op)) none))
 
   pub turn_off : (f : Fault) → Err f ≡ told (refuse_by m count same s op) → ending after c (Some f) ≡ all
   turn_off f h =
       let some = err_some (refuse_by m count same s op) f h in
       ap (λ (v : State). ending v c (Some f)) (left ∙ ap (λ (r : Option Fault). either r s (done_op gates m s op)) some)
-      ∙ sym (refused-at gates m count lists xs at c s op f room is (ap (λ (l : Lists). refuse_by m count l s op) (sym e) ∙ some))
+      ∙ sym (refused-at gates m count lists c s xs l x y z rest is op f named (ap (λ (v : Lists). refuse_by m count v s op) (sym e) ∙ some))
       ∙ sym inv

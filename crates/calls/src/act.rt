@@ -18,24 +18,17 @@ pub fn act<K: Kernel + Drop, S: Sweep + Drop>(
     engine: &Engine<K, S>,
     file: &mut File,
     op: Op,
-    start: &[u32],
-    selectors: &[u32],
-    rows: &[u32],
+    keys: Keys<'_>,
     regs: &mut [u16],
     small: &mut [u16],
     work: &mut [u32],
     scratch: &mut [u32],
 ) -> Result<(), Fault>
-    ensures answer { result ≡ told (refuse_by (numbers_of engine.now.set) (S.Sweep.count engine.now.set.within) (handed_lists start.now selectors.now rows.now small.old work.old scratch.old) (state_of file.old regs.old) op) }
-    ensures state { state_of file.new regs.new ≡ either (refuse_by (numbers_of engine.now.set) (S.Sweep.count engine.now.set.within) (handed_lists start.now selectors.now rows.now small.old work.old scratch.old) (state_of file.old regs.old) op) (state_of file.old regs.old) (done_op (gates_by S.Sweep.defined K.Kernel.reads S.Sweep.count engine.now.set start.now selectors.now rows.now) (numbers_of engine.now.set) (state_of file.old regs.old) op) }
+    ensures answer { result ≡ told (refuse_by (numbers_of engine.now.set) (S.Sweep.count engine.now.set.within) (handed_lists keys.entry.start.now keys.entry.selectors.now keys.entry.rows.now small.old work.old scratch.old) (state_of file.old regs.old) op) }
+    ensures state { state_of file.new regs.new ≡ either (refuse_by (numbers_of engine.now.set) (S.Sweep.count engine.now.set.within) (handed_lists keys.entry.start.now keys.entry.selectors.now keys.entry.rows.now small.old work.old scratch.old) (state_of file.old regs.old) op) (state_of file.old regs.old) (done_op (gates_by S.Sweep.defined K.Kernel.reads S.Sweep.count engine.now.set keys.entry.start.now keys.entry.selectors.now keys.entry.rows.now) (numbers_of engine.now.set) (state_of file.old regs.old) op) }
 {
     match op {
         Op::Gate { letter, x, y, z } => {
-            let keys = Keys {
-                start,
-                selectors,
-                rows,
-            };
             file.gate(engine, letter, x, y, z, keys, regs, small, work, scratch)
         }
         Op::Invert { x, z } => file.invert(engine.set(), x, z, regs),

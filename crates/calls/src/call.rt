@@ -1,7 +1,7 @@
 use gate::letter::Letter;
 
 // How many words of small memory, work memory and scratch a call is handed.
-#[derive(Clone, Copy)]
+#[derive(Clone, Copy, PartialEq, Eq, Debug)]
 pub struct Lent {
     pub small: u32,
     pub work: u32,
@@ -9,7 +9,7 @@ pub struct Lent {
 }
 
 // A call on a register file, with all that it is handed but keys and register memory.
-#[derive(Clone, Copy)]
+#[derive(Clone, Copy, PartialEq, Eq, Debug)]
 pub enum Call<'a> {
     Place {
         z: u32,

@@ -9,27 +9,15 @@ fn other_order(letter: char, x: u8, y: u8, z: u8) -> Option<Op>
     ensures { result ≡ other_order letter x y z }
 {
     match letter {
-        'I' => if y == 0 {
-            Some(Op::Invert {
-                x: x as u32,
-                z: z as u32,
-            })
-        } else {
-            None
-        },
-        'D' => if y == 0 {
-            Some(Op::Copy {
-                x: x as u32,
-                z: z as u32,
-            })
-        } else {
-            None
-        },
-        'C' => if x == 0 && y == 0 {
-            Some(Op::Clear { z: z as u32 })
-        } else {
-            None
-        },
+        'I' if y == 0 => Some(Op::Invert {
+            x: x as u32,
+            z: z as u32,
+        }),
+        'D' if y == 0 => Some(Op::Copy {
+            x: x as u32,
+            z: z as u32,
+        }),
+        'C' if x == 0 && y == 0 => Some(Op::Clear { z: z as u32 }),
         _ => None,
     }
 }

@@ -1,7 +1,7 @@
 ghost use Rattle.std.specs.Prelude.{◌≡◌, ◌+◌, ◌*◌, map, length, replicate, MatchResult};
 ghost use Rattle.faults.specs.Least.{refusal};
 ghost use Rattle.gate.specs.Keys.{start_of, selectors_of};
-ghost use Rattle.gate.specs.Lengths.{start_length, selectors_length, rows_length, gate_work};
+ghost use Rattle.gate.specs.Lengths.{gate_work};
 ghost use Rattle.registers.specs.Marks.{state_of};
 ghost use Rattle.registers.specs.Registers.{numbers_of, wide};
 ghost use Rattle.registers.specs.Steps.{gates_by, fresh};
@@ -11,10 +11,11 @@ ghost use Rattle.calls.specs.Promise.{Promise};
 
 use crate::answer::Answer;
 use crate::call::Call;
-use crate::checks::run_fault;
-use crate::serve::serve;
+use crate::checks::check_run;
+use crate::lend::Loaded;
 use engine::engine::Engine;
 use faults::fault::Fault;
+use gate::keys::Keys;
 use kernels::kernel::Kernel;
 use registers::file::File;
 use registers::lists::Lists;
@@ -22,49 +23,35 @@ use registers::sizes::width;
 use sweeps::sweep::Sweep;
 use words::guard::Wiped;
 
-// Every call in turn, whatever those before it answered.
-fn each<K: Kernel + Drop, S: Sweep + Drop>(
-    engine: &Engine<K, S>,
-    file: &mut File,
-    calls: &[Call],
-    got: &mut [Answer],
-    reads: &mut [u16],
-    start: &[u32],
-    selectors: &[u32],
-    rows: &[u32],
-    regs: &mut [u16],
-    small: &mut [u16],
-    work: &mut [u32],
-    scratch: &mut [u32],
-)
-    requires got { length got.old ≡ length calls.now }
-    requires reads { length reads.old ≡ length calls.now * (wide (numbers_of engine.now.set) + 1) }
-    requires start { length start.now ≡ start_length (numbers_of engine.now.set) }
-    requires selectors { length selectors.now ≡ selectors_length (numbers_of engine.now.set) (S.Sweep.count engine.now.set.within) }
-    requires rows { length rows.now ≡ rows_length (numbers_of engine.now.set) }
-    requires small { length small.old ≡ wide (numbers_of engine.now.set) + 1 }
-    requires work { length work.old ≡ gate_work (numbers_of engine.now.set) + 1 }
-    requires scratch { length scratch.old ≡ (numbers_of engine.now.set).degree + 1 }
-    ensures answers { got.new ≡ answers (gates_by S.Sweep.defined K.Kernel.reads S.Sweep.count engine.now.set start.now selectors.now rows.now) (numbers_of engine.now.set) (S.Sweep.count engine.now.set.within) (state_of file.old regs.old) (map asked calls.now) }
-    ensures reads { reads.new ≡ slots (gates_by S.Sweep.defined K.Kernel.reads S.Sweep.count engine.now.set start.now selectors.now rows.now) (numbers_of engine.now.set) (S.Sweep.count engine.now.set.within) (state_of file.old regs.old) (map asked calls.now) }
-    ensures state { state_of file.new regs.new ≡ left (gates_by S.Sweep.defined K.Kernel.reads S.Sweep.count engine.now.set start.now selectors.now rows.now) (numbers_of engine.now.set) (S.Sweep.count engine.now.set.within) (state_of file.old regs.old) (map asked calls.now) }
-{
-    let size = width(engine.set()) + 1;
-    for i in 0..calls.len() {
-        let at = i * size;
-        got[i] = serve(
-            engine,
-            file,
-            &calls[i],
-            &mut reads[at..at + size],
-            start,
-            selectors,
-            rows,
-            regs,
-            small,
-            work,
-            scratch,
-        );
+impl<K: Kernel + Drop, S: Sweep + Drop> Loaded<'_, K, S> {
+    // Every call in turn, whatever those before it answered.
+    fn each(
+        &self,
+        file: &mut File,
+        calls: &[Call],
+        got: &mut [Answer],
+        reads: &mut [u16],
+        regs: &mut [u16],
+        small: &mut [u16],
+        work: &mut [u32],
+        scratch: &mut [u32],
+    )
+        requires got { length got.old ≡ length calls.now }
+        requires reads { length reads.old ≡ length calls.now * (wide (numbers_of self.now.engine.now.set) + 1) }
+        requires small { length small.old ≡ wide (numbers_of self.now.engine.now.set) + 1 }
+        requires work { length work.old ≡ gate_work (numbers_of self.now.engine.now.set) + 1 }
+        requires scratch { length scratch.old ≡ (numbers_of self.now.engine.now.set).degree + 1 }
+        ensures answers { got.new ≡ answers (gates_by S.Sweep.defined K.Kernel.reads S.Sweep.count self.now.engine.now.set self.now.keys.start.now self.now.keys.selectors.now self.now.keys.rows.now) (numbers_of self.now.engine.now.set) (S.Sweep.count self.now.engine.now.set.within) (state_of file.old regs.old) (map asked calls.now) }
+        ensures reads { reads.new ≡ slots (gates_by S.Sweep.defined K.Kernel.reads S.Sweep.count self.now.engine.now.set self.now.keys.start.now self.now.keys.selectors.now self.now.keys.rows.now) (numbers_of self.now.engine.now.set) (S.Sweep.count self.now.engine.now.set.within) (state_of file.old regs.old) (map asked calls.now) }
+        ensures state { state_of file.new regs.new ≡ left (gates_by S.Sweep.defined K.Kernel.reads S.Sweep.count self.now.engine.now.set self.now.keys.start.now self.now.keys.selectors.now self.now.keys.rows.now) (numbers_of self.now.engine.now.set) (S.Sweep.count self.now.engine.now.set.within) (state_of file.old regs.old) (map asked calls.now) }
+    {
+        let size = width(self.engine.set()) + 1;
+        // Kept: got and reads by number, for a zip with iter_mut and chunks_exact_mut, which was tried, tells nothing of what they end as.
+        for (i, call) in calls.iter().enumerate() {
+            let at = i * size;
+            let slot = &mut reads[at..at + size];
+            got[i] = self.serve(file, call, slot, regs, small, work, scratch);
+        }
     }
 }
 
@@ -75,26 +62,24 @@ fn begin<K: Kernel + Drop, S: Sweep + Drop>(
     calls: &[Call],
     got: &mut [Answer],
     reads: &mut [u16],
-    start: &[u32],
-    selectors: &[u32],
-    rows: &[u32],
+    keys: Keys<'_>,
     regs: &mut [u16],
     small: &mut [u16],
     work: &mut [u32],
     scratch: &mut [u32],
 ) -> Result<File, Fault>
-    ensures answer { refusal result ≡ refuse_run (numbers_of engine.now.set) (S.Sweep.count engine.now.set.within) count (length calls.now) (length got.old) (length reads.old) (length regs.old) (handed_lists start.now selectors.now rows.now small.old work.old scratch.old) }
-    ensures outcome { MatchResult result (λ file. (outcome_of file regs.new got.new reads.new) ≡ run_of (gates_by S.Sweep.defined K.Kernel.reads S.Sweep.count engine.now.set start.now selectors.now rows.now) (numbers_of engine.now.set) (S.Sweep.count engine.now.set.within) count (map asked calls.now)) (λ _. (regs.new ≡ regs.old) × ((got.new ≡ got.old) × (reads.new ≡ reads.old))) }
+    ensures answer { refusal result ≡ refuse_run (numbers_of engine.now.set) (S.Sweep.count engine.now.set.within) count (length calls.now) (length got.old) (length reads.old) (length regs.old) (handed_lists keys.entry.start.now keys.entry.selectors.now keys.entry.rows.now small.old work.old scratch.old) }
+    ensures outcome { MatchResult result (λ file. (outcome_of file regs.new got.new reads.new) ≡ run_of (gates_by S.Sweep.defined K.Kernel.reads S.Sweep.count engine.now.set keys.entry.start.now keys.entry.selectors.now keys.entry.rows.now) (numbers_of engine.now.set) (S.Sweep.count engine.now.set.within) count (map asked calls.now)) (λ _. (regs.new ≡ regs.old) × ((got.new ≡ got.old) × (reads.new ≡ reads.old))) }
 {
     let lists = Lists {
-        start: start.len(),
-        selectors: selectors.len(),
-        rows: rows.len(),
+        start: keys.start.len(),
+        selectors: keys.selectors.len(),
+        rows: keys.rows.len(),
         small: small.len(),
         work: work.len(),
         scratch: scratch.len(),
     };
-    if let Some(fault) = run_fault::<S>(
+    check_run::<S>(
         engine.set(),
         count,
         calls.len(),
@@ -102,13 +87,10 @@ fn begin<K: Kernel + Drop, S: Sweep + Drop>(
         reads.len(),
         regs.len(),
         lists,
-    ) {
-        return Err(fault);
-    }
+    )?;
     let mut file = File::new(engine.set(), count, regs)?;
-    each(
-        engine, &mut file, calls, got, reads, start, selectors, rows, regs, small, work, scratch,
-    );
+    let loaded = Loaded { engine, keys };
+    loaded.each(&mut file, calls, got, reads, regs, small, work, scratch);
     Ok(file)
 }
 
@@ -119,17 +101,15 @@ pub fn run<K: Kernel + Drop, S: Sweep + Drop>(
     calls: &[Call],
     got: &mut [Answer],
     reads: &mut [u16],
-    start: &[u32],
-    selectors: &[u32],
-    rows: &[u32],
+    keys: Keys<'_>,
     regs: &mut [u16],
     small: &mut [u16],
     work: &mut [u32],
     scratch: &mut [u32],
 ) -> Result<File, Fault>
-    ensures answer { refusal result ≡ refuse_run (numbers_of engine.now.set) (S.Sweep.count engine.now.set.within) count (length calls.now) (length got.old) (length reads.old) (length regs.old) (handed_lists start.now selectors.now rows.now small.old work.old scratch.old) }
-    ensures outcome { MatchResult result (λ file. Promise S.Sweep.defined S.Sweep.noise S.Sweep.count S.Sweep.message engine.now.set (start_of K.Kernel.reads engine.now.set start.now) (selectors_of K.Kernel.reads S.Sweep.count engine.now.set selectors.now) rows.now count (map asked calls.now) (outcome_of file regs.new got.new reads.new)) (λ _. (regs.new ≡ regs.old) × ((got.new ≡ got.old) × (reads.new ≡ reads.old))) }
-    ensures least { LeastRun (numbers_of engine.now.set) (S.Sweep.count engine.now.set.within) count (length calls.now) (length got.old) (length reads.old) (length regs.old) (handed_lists start.now selectors.now rows.now small.old work.old scratch.old) }
+    ensures answer { refusal result ≡ refuse_run (numbers_of engine.now.set) (S.Sweep.count engine.now.set.within) count (length calls.now) (length got.old) (length reads.old) (length regs.old) (handed_lists keys.entry.start.now keys.entry.selectors.now keys.entry.rows.now small.old work.old scratch.old) }
+    ensures outcome { MatchResult result (λ file. Promise S.Sweep.defined S.Sweep.noise S.Sweep.count S.Sweep.message engine.now.set (start_of K.Kernel.reads engine.now.set keys.entry.start.now) (selectors_of K.Kernel.reads S.Sweep.count engine.now.set keys.entry.selectors.now) keys.entry.rows.now count (map asked calls.now) (outcome_of file regs.new got.new reads.new)) (λ _. (regs.new ≡ regs.old) × ((got.new ≡ got.old) × (reads.new ≡ reads.old))) }
+    ensures least { LeastRun (numbers_of engine.now.set) (S.Sweep.count engine.now.set.within) count (length calls.now) (length got.old) (length reads.old) (length regs.old) (handed_lists keys.entry.start.now keys.entry.selectors.now keys.entry.rows.now small.old work.old scratch.old) }
     ensures small { small.new ≡ replicate (length small.old) 0 }
     ensures work { work.new ≡ replicate (length work.old) 0 }
     ensures scratch { scratch.new ≡ replicate (length scratch.old) 0 }
@@ -143,9 +123,7 @@ pub fn run<K: Kernel + Drop, S: Sweep + Drop>(
         calls,
         got,
         reads,
-        start,
-        selectors,
-        rows,
+        keys,
         regs,
         little.words,
         room.words,

@@ -4,6 +4,6 @@ use Rattle.calls.proofs.serve.place.Goals as goal
 pub returns : goal.returns
 returns g c =
     record {
-      answer = verdict_told _ c.place.result _ c.verdict_of.ensures (rw c.set.ensures at c.place.ensures.answer);
+      answer = verdict_told _ c.place.result _ c.into.ensures (rw c.set.ensures at c.place.ensures.answer);
       state = rw c.set.ensures at c.place.ensures.state;
     }
