@@ -90,6 +90,7 @@ impl File {
     }
 
     // Writes the gate of x and y to z, and marks z. Any of the three may be the same register.
+    // Kept: small, work and scratch one by one, as callers lend them and a fault numbers them.
     pub fn gate<K: Kernel + Drop, S: Sweep + Drop>(
         &mut self,
         engine: &Engine<K, S>,

@@ -19,6 +19,7 @@ use sweeps::sweep::Sweep;
 use words::guard::Wiped;
 
 // Writes the gate of the registers x and y to z, of so many.
+// Kept: kernel, sweep, set and the three work memories one by one, as gate_at takes them.
 fn gate_row<K: Kernel, S: Sweep>(
     kernel: &K,
     sweep: &S,
@@ -52,6 +53,7 @@ fn gate_row<K: Kernel, S: Sweep>(
 }
 
 // The gate of registers of a file.
+// Kept: the same one by one, since an engine or a struct of them would be taken apart here at once.
 pub(crate) fn gate_on<K: Kernel, S: Sweep>(
     kernel: &K,
     sweep: &S,
