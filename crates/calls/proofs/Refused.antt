@@ -1,7 +1,7 @@
 -- Each refusal of a run is the least of the faults that are true of it.
-use Rattle.std.proofs.Common.{◌≡◌, ℕ, ◌+◌, ◌*◌, ◌/◌, ◌%◌, ◌<◌, ◌≤◌, Bool, true, false, ◌&&◌, eqb, leb, ◌⊎◌, Some, None, Option, sym, refl, ap, ◌∙◌, subst, inl, inr, div-add-mod', mul-div_cancel, arith}
+use Rattle.std.proofs.Common.{◌≡◌, ℕ, ◌+◌, ◌*◌, ◌%◌, ◌<◌, ◌≤◌, Bool, true, false, ◌&&◌, eqb, leb, ◌⊎◌, Some, None, Option, sym, refl, ap, ◌∙◌, subst, inl, inr, arith}
 use native.Mathlib.Nat.{mul-mod_left}
-use Rattle.std.proofs.lemmas.Bool.{eqb-true, eqb-false, eq-eqb, ne_eqb, leb-true, leb-false, and_parts, and_cases}
+use Rattle.std.proofs.lemmas.Bool.{cases_eq, eqb-true, eqb-false, eq-eqb, ne_eqb, leb-true, leb-false, and_parts, and_cases}
 use Rattle.faults.specs.declared.fault.Fault.{Fault}
 use Rattle.faults.specs.declared.fault.Fault.TheVariants.{Length, Register}
 use Rattle.faults.specs.declared.fault.Layer.TheVariants.{File, Runs}
@@ -12,7 +12,7 @@ use Rattle.gate.specs.Lengths.{start_length, selectors_length, rows_length, gate
 use Rattle.registers.specs.declared.lists.Lists.{Lists}
 use Rattle.registers.specs.Registers.{wide}
 use Rattle.registers.specs.Steps.{refuse_new}
-use Rattle.calls.specs.Calls.{bad_list, bad_keys, bad_work}
+use Rattle.calls.specs.Calls.{bad_list}
 use Rattle.calls.specs.Runs.{run_lists, refuse_run, WrongRun, LeastRun}
 
 or_assoc : (a b c : Option Fault) → or_else (or_else a b) c ≡ or_else a (or_else b c)
@@ -72,32 +72,17 @@ run_least m count R calls got reads regs l =
     (bad_list Runs 9 l.scratch (m.degree + 1)) (unless (leb 1 R && leb R 64) (Register R)))
     rows.least
 
--- a product, told by quotient and remainder
-rows_by : (n w rows : ℕ) → 0 < w → n / w * w ≡ n → (b : Bool) → eqb (n / w) rows ≡ b → b ≡ eqb n (rows * w)
-rows_by n w rows pos whole true e = sym (eq-eqb n (rows * w) (sym whole ∙ ap (λ (k : ℕ). k * w) (eqb-true (n / w) rows e)))
-rows_by n w rows pos whole false e = sym (ne_eqb n (rows * w) (λ p. eqb-false (n / w) rows e (ap (λ (k : ℕ). k / w) p ∙ mul-div_cancel rows pos)))
-
-pub rows_are : (n w rows : ℕ) → 0 < w → n % w ≡ 0 → eqb (n / w) rows ≡ eqb n (rows * w)
-rows_are n w rows pos h = rows_by n w rows pos (let e = div-add-mod' n w in omega arith) (eqb (n / w) rows) refl
-
+-- no product, told by a remainder
 pub rows_not : (n w rows : ℕ) → (n % w ≡ 0 → ⊥) → eqb (n % w) 0 ≡ eqb n (rows * w)
 rows_not n w rows h = ne_eqb (n % w) 0 h ∙ sym (ne_eqb n (rows * w) (λ e. h (ap (λ (k : ℕ). k % w) e ∙ mul-mod_left rows w)))
 
 -- a run that is not refused: what its parts may rely on
-first_none : (a b : Option Fault) → or_else a b ≡ None → a ≡ None
-first_none None b e = refl
-first_none (Some f) b e = e
-
 rest_none : (a b : Option Fault) → or_else a b ≡ None → b ≡ None
 rest_none None b e = e
 rest_none (Some f) b e = absurd (let z : ◌≡◌ {A = ℕ} 0 1 = cc in omega arith)
 
-fit : (i have want : ℕ) → bad_list Runs i have want ≡ None → have ≡ want
-fit i have want e = eqb-true have want (passes (eqb have want) (Length i Runs) e)
-  where
-    passes : (b : Bool) (f : Fault) → unless b f ≡ None → b ≡ true
-    passes true f e = refl
-    passes false f e = absurd (let z : ◌≡◌ {A = ℕ} 0 1 = cc in omega arith)
+equal : (a b : ℕ) → ((a ≡ b → ⊥) → ⊥) → a ≡ b
+equal a b no-fault = elim (cases_eq a b) [ inl e ↦ e | inr n ↦ absurd (no-fault n) ]
 
 pub record Ready (m : Numbers) (count R calls got reads regs : ℕ) (l : Lists) : Type 0 where
   pub got_long : got ≡ calls
@@ -110,39 +95,21 @@ pub record Ready (m : Numbers) (count R calls got reads regs : ℕ) (l : Lists) 
   pub work_long : l.work ≡ gate_work m + 1
   pub scratch_long : l.scratch ≡ m.degree + 1
 
-pub lists_ready : (m : Numbers) (count R calls got reads regs : ℕ) (l : Lists) → run_lists m count R calls got reads regs l ≡ None → Ready m count R calls got reads regs l
-lists_ready m count R calls got reads regs l e =
-    let a1 = bad_list Runs 1 got calls in
-    let a2 = bad_list Runs 2 reads (calls * (wide m + 1)) in
-    let keys = bad_keys Runs 3 m count l in
-    let memory = bad_list Runs 6 regs (R * wide m) in
-    let work = bad_work Runs 7 1 m l in
-    let r1 = rest_none a1 (or_else a2 (or_else keys (or_else memory work))) e in
-    let r2 = rest_none a2 (or_else keys (or_else memory work)) r1 in
-    let r3 = rest_none keys (or_else memory work) r2 in
-    let r4 = rest_none memory work r3 in
-    let k = first_none keys (or_else memory work) r2 in
-    let k1 = bad_list Runs 3 l.start (start_length m) in
-    let k2 = bad_list Runs 4 l.selectors (selectors_length m count) in
-    let k3 = bad_list Runs 5 l.rows (rows_length m) in
-    let w1 = bad_list Runs 7 l.small (wide m + 1) in
-    let w2 = bad_list Runs 8 l.work (gate_work m + 1) in
-    let w3 = bad_list Runs 9 l.scratch (m.degree + 1) in
-    record {
-      got_long = fit 1 got calls (first_none a1 (or_else a2 (or_else keys (or_else memory work))) e);
-      reads_long = fit 2 reads (calls * (wide m + 1)) (first_none a2 (or_else keys (or_else memory work)) r1);
-      start_long = fit 3 l.start (start_length m) (first_none k1 (or_else k2 k3) k);
-      selectors_long = fit 4 l.selectors (selectors_length m count) (first_none k2 k3 (rest_none k1 (or_else k2 k3) k));
-      rows_long = fit 5 l.rows (rows_length m) (rest_none k2 k3 (rest_none k1 (or_else k2 k3) k));
-      regs_long = fit 6 regs (R * wide m) (first_none memory work r3);
-      small_long = fit 7 l.small (wide m + 1) (first_none w1 (or_else w2 w3) r4);
-      work_long = fit 8 l.work (gate_work m + 1) (first_none w2 w3 (rest_none w1 (or_else w2 w3) r4));
-      scratch_long = fit 9 l.scratch (m.degree + 1) (rest_none w2 w3 (rest_none w1 (or_else w2 w3) r4));
-    }
-
 pub run_ready : (m : Numbers) (count R calls got reads regs : ℕ) (l : Lists) → refuse_run m count R calls got reads regs l ≡ None → Ready m count R calls got reads regs l
 run_ready m count R calls got reads regs l e =
-    lists_ready m count R calls got reads regs l (first_none (run_lists m count R calls got reads regs l) (unless (leb 1 R && leb R 64) (Register R)) e)
+    let clean : (g : Fault) → WrongRun m count R calls got reads regs l g → ⊥ =
+    subst (Least (WrongRun m count R calls got reads regs l)) e (run_least m count R calls got reads regs l) in
+    record {
+      got_long = equal got calls (λ n. clean (Length 1 Runs) (inl (refl, n)));
+      reads_long = equal reads (calls * (wide m + 1)) (λ n. clean (Length 2 Runs) (inr (inl (refl, n))));
+      start_long = equal l.start (start_length m) (λ n. clean (Length 3 Runs) (inr (inr (inl (refl, n)))));
+      selectors_long = equal l.selectors (selectors_length m count) (λ n. clean (Length 4 Runs) (inr (inr (inr (inl (refl, n))))));
+      rows_long = equal l.rows (rows_length m) (λ n. clean (Length 5 Runs) (inr (inr (inr (inr (inl (refl, n)))))));
+      regs_long = equal regs (R * wide m) (λ n. clean (Length 6 Runs) (inr (inr (inr (inr (inr (inl (refl, n))))))));
+      small_long = equal l.small (wide m + 1) (λ n. clean (Length 7 Runs) (inr (inr (inr (inr (inr (inr (inl (refl, n)))))))));
+      work_long = equal l.work (gate_work m + 1) (λ n. clean (Length 8 Runs) (inr (inr (inr (inr (inr (inr (inr (inl (refl, n))))))))));
+      scratch_long = equal l.scratch (m.degree + 1) (λ n. clean (Length 9 Runs) (inr (inr (inr (inr (inr (inr (inr (inr (inl (refl, n)))))))))));
+    }
 
 -- so the file is made
 pub file_made : (m : Numbers) (count R calls got reads regs : ℕ) (l : Lists) → refuse_run m count R calls got reads regs l ≡ None → refuse_new m R regs ≡ None
