@@ -1,7 +1,7 @@
 -- Each refusal of a run is the least of the faults that are true of it.
-use Rattle.std.proofs.Common.{◌≡◌, ℕ, ◌+◌, ◌*◌, ◌%◌, ◌<◌, ◌≤◌, Bool, true, false, ◌&&◌, eqb, leb, ◌⊎◌, Some, None, Option, sym, refl, ap, ◌∙◌, subst, inl, inr, arith}
+use Rattle.std.proofs.Common.{◌≡◌, ℕ, ◌+◌, ◌*◌, ◌%◌, ◌<◌, ◌≤◌, true, false, ◌&&◌, eqb, leb, ◌⊎◌, Some, None, Option, sym, refl, ap, ◌∙◌, subst, inl, inr, arith}
 use native.Mathlib.Nat.{mul-mod_left}
-use Rattle.std.proofs.lemmas.Bool.{cases_eq, eqb-true, eqb-false, eq-eqb, ne_eqb, leb-true, leb-false, and_parts, and_cases}
+use Rattle.std.proofs.lemmas.Bool.{cases_eq, eqb-true, eqb-false, ne_eqb, leb-true, leb-false, and_parts, and_cases}
 use Rattle.faults.specs.declared.fault.Fault.{Fault}
 use Rattle.faults.specs.declared.fault.Fault.TheVariants.{Length, Register}
 use Rattle.faults.specs.declared.fault.Layer.TheVariants.{File, Runs}
@@ -9,15 +9,12 @@ use Rattle.faults.specs.Least.{Least, or_else, unless}
 use Rattle.faults.proofs.Least.{Rows, row_first, row_last}
 use Rattle.set.specs.declared.numbers.Numbers.{Numbers}
 use Rattle.gate.specs.Lengths.{start_length, selectors_length, rows_length, gate_work}
+use Rattle.gate.proofs.Answers.{right_then}
 use Rattle.registers.specs.declared.lists.Lists.{Lists}
 use Rattle.registers.specs.Registers.{wide}
 use Rattle.registers.specs.Steps.{refuse_new}
 use Rattle.calls.specs.Calls.{bad_list}
 use Rattle.calls.specs.Runs.{run_lists, refuse_run, WrongRun, LeastRun}
-
-or_assoc : (a b c : Option Fault) → or_else (or_else a b) c ≡ or_else a (or_else b c)
-or_assoc None b c = refl
-or_assoc (Some f) b c = refl
 
 -- R outside its limits
 count_wrong : (R : ℕ) → (leb 1 R && leb R 64) ≡ false → ((1 ≤ R) × (R ≤ 64)) → ⊥
@@ -76,45 +73,20 @@ run_least m count R calls got reads regs l =
 pub rows_not : (n w rows : ℕ) → (n % w ≡ 0 → ⊥) → eqb (n % w) 0 ≡ eqb n (rows * w)
 rows_not n w rows h = ne_eqb (n % w) 0 h ∙ sym (ne_eqb n (rows * w) (λ e. h (ap (λ (k : ℕ). k % w) e ∙ mul-mod_left rows w)))
 
--- a run that is not refused: what its parts may rely on
 rest_none : (a b : Option Fault) → or_else a b ≡ None → b ≡ None
 rest_none None b e = e
 rest_none (Some f) b e = absurd (let z : ◌≡◌ {A = ℕ} 0 1 = cc in omega arith)
 
-equal : (a b : ℕ) → ((a ≡ b → ⊥) → ⊥) → a ≡ b
-equal a b no-fault = elim (cases_eq a b) [ inl e ↦ e | inr n ↦ absurd (no-fault n) ]
-
-pub record Ready (m : Numbers) (count R calls got reads regs : ℕ) (l : Lists) : Type 0 where
-  pub got_long : got ≡ calls
-  pub reads_long : reads ≡ calls * (wide m + 1)
-  pub start_long : l.start ≡ start_length m
-  pub selectors_long : l.selectors ≡ selectors_length m count
-  pub rows_long : l.rows ≡ rows_length m
-  pub regs_long : regs ≡ R * wide m
-  pub small_long : l.small ≡ wide m + 1
-  pub work_long : l.work ≡ gate_work m + 1
-  pub scratch_long : l.scratch ≡ m.degree + 1
-
-pub run_ready : (m : Numbers) (count R calls got reads regs : ℕ) (l : Lists) → refuse_run m count R calls got reads regs l ≡ None → Ready m count R calls got reads regs l
-run_ready m count R calls got reads regs l e =
+-- a run that is not refused has register memory of the right length, and its file is made
+regs_right : (m : Numbers) (count R calls got reads regs : ℕ) (l : Lists) → refuse_run m count R calls got reads regs l ≡ None → regs ≡ R * wide m
+regs_right m count R calls got reads regs l e =
     let clean : (g : Fault) → WrongRun m count R calls got reads regs l g → ⊥ =
     subst (Least (WrongRun m count R calls got reads regs l)) e (run_least m count R calls got reads regs l) in
-    record {
-      got_long = equal got calls (λ n. clean (Length 1 Runs) (inl (refl, n)));
-      reads_long = equal reads (calls * (wide m + 1)) (λ n. clean (Length 2 Runs) (inr (inl (refl, n))));
-      start_long = equal l.start (start_length m) (λ n. clean (Length 3 Runs) (inr (inr (inl (refl, n)))));
-      selectors_long = equal l.selectors (selectors_length m count) (λ n. clean (Length 4 Runs) (inr (inr (inr (inl (refl, n))))));
-      rows_long = equal l.rows (rows_length m) (λ n. clean (Length 5 Runs) (inr (inr (inr (inr (inl (refl, n)))))));
-      regs_long = equal regs (R * wide m) (λ n. clean (Length 6 Runs) (inr (inr (inr (inr (inr (inl (refl, n))))))));
-      small_long = equal l.small (wide m + 1) (λ n. clean (Length 7 Runs) (inr (inr (inr (inr (inr (inr (inl (refl, n)))))))));
-      work_long = equal l.work (gate_work m + 1) (λ n. clean (Length 8 Runs) (inr (inr (inr (inr (inr (inr (inr (inl (refl, n))))))))));
-      scratch_long = equal l.scratch (m.degree + 1) (λ n. clean (Length 9 Runs) (inr (inr (inr (inr (inr (inr (inr (inr (inl (refl, n)))))))))));
-    }
+    elim (cases_eq regs (R * wide m)) [ inl h ↦ h | inr n ↦ absurd (clean (Length 6 Runs) (inr (inr (inr (inr (inr (inl (refl, n)))))))) ]
 
--- so the file is made
 pub file_made : (m : Numbers) (count R calls got reads regs : ℕ) (l : Lists) → refuse_run m count R calls got reads regs l ≡ None → refuse_new m R regs ≡ None
 file_made m count R calls got reads regs l e =
-    ap (λ (b : Bool). or_else (unless b (Length 0 File)) (unless (leb 1 R && leb R 64) (Register R))) (eq-eqb regs (R * wide m) (run_ready m count R calls got reads regs l e).regs_long)
+    right_then regs (R * wide m) (Length 0 File) (unless (leb 1 R && leb R 64) (Register R)) (regs_right m count R calls got reads regs l e)
     ∙ rest_none (run_lists m count R calls got reads regs l) (unless (leb 1 R && leb R 64) (Register R)) e
 
 pub never : {A : Type 0} (f : Fault) (r : Option Fault) → Some f ≡ r → r ≡ None → A

@@ -28,20 +28,9 @@ pub fn act<K: Kernel + Drop, S: Sweep + Drop>(
     ensures state { state_of file.new regs.new ≡ either (refuse_by (numbers_of engine.now.set) (S.Sweep.count engine.now.set.within) (handed_lists keys.entry.start.now keys.entry.selectors.now keys.entry.rows.now small.old work.old scratch.old) (state_of file.old regs.old) op) (state_of file.old regs.old) (done_op (gates_by S.Sweep.defined K.Kernel.reads S.Sweep.count engine.now.set keys.entry.start.now keys.entry.selectors.now keys.entry.rows.now) (numbers_of engine.now.set) (state_of file.old regs.old) op) }
 {
     match op {
-        Op::Gate { letter, x, y, z } => file.gate(
-            engine,
-            letter,
-            x,
-            y,
-            z,
-            keys.start,
-            keys.selectors,
-            keys.rows,
-            regs,
-            small,
-            work,
-            scratch,
-        ),
+        Op::Gate { letter, x, y, z } => {
+            file.gate(engine, letter, x, y, z, keys, regs, small, work, scratch)
+        }
         Op::Invert { x, z } => file.invert(engine.set(), x, z, regs),
         Op::Copy { x, z } => file.copy(engine.set(), x, z, regs),
         Op::Clear { z } => file.clear(engine.set(), z, regs),

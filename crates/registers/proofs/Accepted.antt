@@ -1,19 +1,29 @@
 -- What holds of a call that is not refused: none of its faults is true.
-use Rattle.std.proofs.Common.{◌≡◌, ℕ, ◌*◌, ◌<◌, ◌≤◌, Bool, true, false, List, [], ◌∷◌, length, get_or, None, refl, subst, inl, inr, arith}
+use Rattle.std.proofs.Common.{◌≡◌, ℕ, ◌*◌, ◌<◌, ◌≤◌, Bool, true, false, List, [], ◌∷◌, length, get_or, Some, None, Ok, Err, Option, refl, subst, inl, inr, arith}
 use Rattle.std.proofs.lemmas.Bool.{cases_lt, cases_eq, cases_Bool}
 use Rattle.faults.specs.declared.fault.Fault.{Fault}
 use Rattle.faults.specs.declared.fault.Fault.TheVariants.{Length, Register, Empty, CipherWord}
 use Rattle.faults.specs.declared.fault.Layer.TheVariants.{File}
-use Rattle.faults.specs.Least.{Least}
+use Rattle.faults.specs.Least.{Least, told}
 use Rattle.set.specs.declared.numbers.Numbers.{Numbers}
 use Rattle.registers.specs.declared.op.Op.{Op}
 use Rattle.registers.specs.Registers.{wide}
 use Rattle.registers.specs.Marks.{State}
 use Rattle.gate.specs.Lengths.{start_length, selectors_length, rows_length, gate_work}
 use Rattle.registers.specs.declared.lists.Lists.{Lists}
-use Rattle.registers.specs.Steps.{named, used, refuse_new, refuse_place, refuse_read, refuse_op, refuse_gate}
+use Rattle.registers.specs.Steps.{either, named, used, refuse_new, refuse_place, refuse_read, refuse_op, refuse_gate}
 use Rattle.registers.specs.Wrong.{Among, WrongNew, WrongPlace, WrongRead, WrongOp, WrongGate}
 use Rattle.registers.proofs.Refusals.{new_least, place_least, read_least, op_least, gate_least}
+
+-- a call that answered Ok was not refused
+pub ok_none : (r : Option Fault) (u : Unit {0}) → Ok u ≡ told r → r ≡ None
+ok_none None u e = refl
+ok_none (Some f) u e = absurd (let z : ◌≡◌ {A = ℕ} 0 1 = cc in omega arith)
+
+-- a refused call leaves what was
+pub refused : {A : Type 0} (r : Option Fault) (f : Fault) (old new : A) → Err f ≡ told r → old ≡ either r old new
+refused None f old new e = absurd (let z : ◌≡◌ {A = ℕ} 0 1 = cc in omega arith)
+refused (Some g) f old new e = refl
 
 -- two numbers are equal, one is below another, a mark is there: else there is a fault
 equal : (a b : ℕ) → ((a ≡ b → ⊥) → ⊥) → a ≡ b

@@ -4,3 +4,4 @@ pub mod Smallest
 pub mod Refusals
 pub mod Gated
 pub mod Accepted
+pub mod Picks

@@ -117,6 +117,11 @@ used (Clear z) = z ∷ []
 abbrev pub refuse_op : Numbers → State → Op → Option Fault
 refuse_op m s op = or_else (bad_memory 0 m s) (bad_registers s (named op) (used op))
 
+-- the lengths of the lists that a gate is handed besides register memory
+abbrev pub lists_of : List ℕ → List ℕ → List ℕ → List ℕ → List ℕ → List ℕ → Lists
+lists_of start selectors rows small work scratch =
+    record { start = length start; selectors = length selectors; rows = length rows; small = length small; work = length work; scratch = length scratch }
+
 -- the lists of a gate, for a sweep that takes so many selectors
 abbrev pub gate_lists : Numbers → ℕ → Lists → State → Option Fault
 gate_lists m count l s =

@@ -2,16 +2,17 @@ ghost use Rattle.std.specs.Prelude.{◌≡◌, ◌*◌, length, replicate, IfOk}
 ghost use Rattle.faults.specs.Least.{refusal, told};
 ghost use Rattle.registers.specs.Marks.{state_of};
 ghost use Rattle.registers.specs.Registers.{numbers_of, wide};
-ghost use Rattle.registers.specs.Steps.{either, fresh, refuse_new, refuse_place, next_place, refuse_read, read_out, refuse_op, next_invert, next_copy, next_clear, gates_by, refuse_gate, next_gate};
+ghost use Rattle.registers.specs.Steps.{lists_of, either, fresh, refuse_new, refuse_place, next_place, refuse_read, read_out, refuse_op, next_invert, next_copy, next_clear, gates_by, refuse_gate, next_gate};
 ghost use Rattle.registers.specs.Wrong.{LeastNew, LeastPlace, LeastRead, LeastOp, LeastGate};
 
+use crate::checks::{check_new, check_op, check_place, check_read};
 use crate::file::File;
 use crate::gates::gate_on;
 use crate::named::{copy_at, invert_at, put_at, take_at};
 use crate::op::Op;
-use crate::refuse::{refuse_new, refuse_op, refuse_place, refuse_read};
 use engine::engine::Engine;
 use faults::fault::Fault;
+use gate::keys::Keys;
 use gate::letter::Letter;
 use kernels::kernel::Kernel;
 use set::checked::Set;
@@ -25,9 +26,7 @@ impl File {
         ensures words { regs.new ≡ either (refuse_new (numbers_of set.now) count (length regs.old)) regs.old (replicate (count * wide (numbers_of set.now)) 0) }
         ensures least { LeastNew (numbers_of set.now) count (length regs.old) }
     {
-        if let Some(fault) = refuse_new(set, count, regs.len()) {
-            return Err(fault);
-        }
+        check_new(set, count, regs.len())?;
         regs.fill(0);
         Ok(File::fresh(count))
     }
@@ -38,9 +37,7 @@ impl File {
         ensures state { state_of self.new regs.new ≡ next_place (numbers_of set.now) (state_of self.old regs.old) z words.now }
         ensures least { LeastPlace (numbers_of set.now) (state_of self.old regs.old) z words.now }
     {
-        if let Some(fault) = refuse_place(set, self, z, words, regs) {
-            return Err(fault);
-        }
+        check_place(set, self, z, words, regs)?;
         put_at(set, self.registers(), words, regs, z);
         self.mark(z, true);
         Ok(())
@@ -52,9 +49,7 @@ impl File {
         ensures words { out.new ≡ read_out (numbers_of set.now) (state_of self.now regs.now) x out.old }
         ensures least { LeastRead (numbers_of set.now) (state_of self.now regs.now) x (length out.old) }
     {
-        if let Some(fault) = refuse_read(set, self, x, out.len(), regs) {
-            return Err(fault);
-        }
+        check_read(set, self, x, out.len(), regs)?;
         take_at(set, self.registers(), regs, x, out);
         Ok(())
     }
@@ -65,9 +60,7 @@ impl File {
         ensures state { state_of self.new regs.new ≡ next_copy (numbers_of set.now) (state_of self.old regs.old) x z }
         ensures least { LeastOp (numbers_of set.now) (state_of self.old regs.old) (Op.Copy x z) }
     {
-        if let Some(fault) = refuse_op(set, self, Op::Copy { x, z }, regs) {
-            return Err(fault);
-        }
+        check_op(set, self, Op::Copy { x, z }, regs)?;
         copy_at(set, self.registers(), regs, x, z);
         self.mark(z, true);
         Ok(())
@@ -79,9 +72,7 @@ impl File {
         ensures state { state_of self.new regs.new ≡ next_clear (numbers_of set.now) (state_of self.old regs.old) z }
         ensures least { LeastOp (numbers_of set.now) (state_of self.old regs.old) (Op.Clear z) }
     {
-        if let Some(fault) = refuse_op(set, self, Op::Clear { z }, regs) {
-            return Err(fault);
-        }
+        check_op(set, self, Op::Clear { z }, regs)?;
         self.mark(z, false);
         Ok(())
     }
@@ -92,9 +83,7 @@ impl File {
         ensures state { state_of self.new regs.new ≡ next_invert (numbers_of set.now) (state_of self.old regs.old) x z }
         ensures least { LeastOp (numbers_of set.now) (state_of self.old regs.old) (Op.Invert x z) }
     {
-        if let Some(fault) = refuse_op(set, self, Op::Invert { x, z }, regs) {
-            return Err(fault);
-        }
+        check_op(set, self, Op::Invert { x, z }, regs)?;
         invert_at(set, self.registers(), regs, x, z);
         self.mark(z, true);
         Ok(())
@@ -108,20 +97,18 @@ impl File {
         x: u32,
         y: u32,
         z: u32,
-        start: &[u32],
-        selectors: &[u32],
-        rows: &[u32],
+        keys: Keys<'_>,
         regs: &mut [u16],
         small: &mut [u16],
         work: &mut [u32],
         scratch: &mut [u32],
     ) -> Result<(), Fault>
-        ensures answer { result ≡ told (refuse_gate (numbers_of engine.now.set) (S.Sweep.count engine.now.set.within) (record { start = length start.entry.now; selectors = length selectors.now; rows = length rows.now; small = length small.old; work = length work.old; scratch = length scratch.old }) (state_of self.old regs.old) x y z) }
-        ensures state { state_of self.new regs.new ≡ next_gate (gates_by S.Sweep.defined K.Kernel.reads S.Sweep.count engine.now.set start.entry.now selectors.now rows.now) (numbers_of engine.now.set) (S.Sweep.count engine.now.set.within) (record { start = length start.entry.now; selectors = length selectors.now; rows = length rows.now; small = length small.old; work = length work.old; scratch = length scratch.old }) (state_of self.old regs.old) letter x y z }
+        ensures answer { result ≡ told (refuse_gate (numbers_of engine.now.set) (S.Sweep.count engine.now.set.within) (lists_of keys.entry.start.now keys.entry.selectors.now keys.entry.rows.now small.old work.old scratch.old) (state_of self.old regs.old) x y z) }
+        ensures state { state_of self.new regs.new ≡ next_gate (gates_by S.Sweep.defined K.Kernel.reads S.Sweep.count engine.now.set keys.entry.start.now keys.entry.selectors.now keys.entry.rows.now) (numbers_of engine.now.set) (S.Sweep.count engine.now.set.within) (lists_of keys.entry.start.now keys.entry.selectors.now keys.entry.rows.now small.old work.old scratch.old) (state_of self.old regs.old) letter x y z }
         ensures small { small.new ≡ replicate (length small.old) 0 }
         ensures work { work.new ≡ replicate (length work.old) 0 }
         ensures scratch { scratch.new ≡ replicate (length scratch.old) 0 }
-        ensures least { LeastGate (numbers_of engine.now.set) (S.Sweep.count engine.now.set.within) (record { start = length start.entry.now; selectors = length selectors.now; rows = length rows.now; small = length small.old; work = length work.old; scratch = length scratch.old }) (state_of self.old regs.old) x y z }
+        ensures least { LeastGate (numbers_of engine.now.set) (S.Sweep.count engine.now.set.within) (lists_of keys.entry.start.now keys.entry.selectors.now keys.entry.rows.now small.old work.old scratch.old) (state_of self.old regs.old) x y z }
     {
         gate_on(
             engine.kernel(),
@@ -132,9 +119,7 @@ impl File {
             x,
             y,
             z,
-            start,
-            selectors,
-            rows,
+            keys,
             regs,
             small,
             work,

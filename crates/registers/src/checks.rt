@@ -1,7 +1,10 @@
-ghost use Rattle.std.specs.Prelude.{◌≡◌, ℕ, ◌*◌, [], length, ◌==◌};
+ghost use Rattle.std.specs.Prelude.{◌≡◌, ◌≤◌, false, not, [], filter, length, min, nat_le, slice_index_or};
+ghost use Rattle.std.specs.List.{reduce};
+ghost use Rattle.faults.specs.Least.{told};
 ghost use Rattle.registers.specs.Marks.{filled, state_of};
-ghost use Rattle.registers.specs.Registers.{numbers_of, wide};
-ghost use Rattle.registers.specs.Steps.{lesser, outside, vacant, outsides, vacants, bad_registers, named, used, gate_lists, refuse_new, refuse_place, refuse_read, refuse_op, refuse_gate};
+ghost use Rattle.registers.specs.Registers.{numbers_of, first_high};
+ghost use Rattle.registers.specs.Steps.{outsides, vacants, bad_length, bad_memory, bad_registers, refuse_new, refuse_place, refuse_read, refuse_op, refuse_gate, gate_lists, fault_at};
+ghost use Rattle.registers.specs.Wrong.{LeastNew, LeastPlace, LeastRead, LeastOp, LeastGate};
 
 use crate::file::File;
 use crate::lists::Lists;
@@ -9,234 +12,172 @@ use crate::op::Op;
 use crate::rows::first_high;
 use crate::sizes::{gate_words, memory_of, row_words, selector_words, small, start_words, width};
 use faults::fault::{Fault, Layer};
-use gate::letter::Letter;
 use set::checked::Set;
 use sweeps::sweep::Sweep;
 
-// The smaller of two numbers, where there are any.
-fn smaller(a: Option<u32>, b: Option<u32>) -> Option<u32>
-    ensures { result ≡ lesser a b }
+// The smallest of these registers that is not below R.
+fn beyond(file: &File, names: &[u32]) -> Option<u32>
+    ensures { result ≡ reduce min (filter (λ x. nat_le file.now.count x) names.now) }
 {
-    match (a, b) {
-        (a, None) => a,
-        (None, Some(y)) => Some(y),
-        (Some(x), Some(y)) => Some(if x < y { x } else { y }),
-    }
+    names
+        .iter()
+        .copied()
+        .filter(|x| file.registers() <= *x)
+        .min()
 }
 
-// A register that is not below R.
-fn beyond(file: &File, x: u32) -> Option<u32>
-    ensures { result ≡ outside file.now.count x }
+// The smallest of these registers that is empty.
+fn empty(file: &File, uses: &[u32]) -> Option<u32>
+    ensures { result ≡ reduce min (filter (λ x. not (slice_index_or (filled file.now) x false)) uses.now) }
 {
-    if x < file.registers() { None } else { Some(x) }
+    uses.iter().copied().filter(|x| !file.is_filled(*x)).min()
 }
 
-// A register that is empty.
-fn unfilled(file: &File, x: u32) -> Option<u32>
-    ensures { result ≡ vacant (filled file.now) x }
+// A list of a call has its length.
+fn check_length(list: u32, have: usize, want: usize) -> Result<(), Fault>
+    ensures { result ≡ told (bad_length list have want) }
 {
-    if file.is_filled(x) { None } else { Some(x) }
-}
-
-// The smallest register of an operation that is not below R.
-fn beyond_all(file: &File, op: Op) -> Option<u32>
-    ensures { result ≡ outsides file.now.count (named op) }
-{
-    match op {
-        Op::Gate { letter: _, x, y, z } => smaller(
-            beyond(file, x),
-            smaller(beyond(file, y), beyond(file, z)),
-        ),
-        Op::Invert { x, z } => smaller(beyond(file, x), beyond(file, z)),
-        Op::Copy { x, z } => smaller(beyond(file, x), beyond(file, z)),
-        Op::Clear { z } => beyond(file, z),
-    }
-}
-
-// The smallest register that an operation uses and that is empty.
-fn empty_all(file: &File, op: Op) -> Option<u32>
-    ensures { result ≡ vacants (filled file.now) (used op) }
-{
-    match op {
-        Op::Gate {
-            letter: _,
-            x,
-            y,
-            z: _,
-        } => smaller(unfilled(file, x), unfilled(file, y)),
-        Op::Invert { x, z: _ } => unfilled(file, x),
-        Op::Copy { x, z: _ } => unfilled(file, x),
-        Op::Clear { z } => unfilled(file, z),
-    }
-}
-
-// Whether register memory has its length.
-fn memory_fits(set: &Set, file: &File, regs: &[u16]) -> bool
-    ensures { result ≡ (length regs.now == file.now.count * wide (numbers_of set.now)) }
-{
-    regs.len() == memory_of(set, file.registers())
-}
-
-// Why no file is made, if none is.
-pub fn new_fault(set: &Set, count: u32, len: usize) -> Option<Fault>
-    ensures { result ≡ refuse_new (numbers_of set.now) count len }
-{
-    if len != memory_of(set, count) {
-        return Some(Fault::Length {
-            list: 0,
-            part: Layer::File,
-        });
-    }
-    if 1 <= count && count <= 64 {
-        None
+    if have == want {
+        Ok(())
     } else {
-        Some(Fault::Register { register: count })
+        Err(Fault::Length {
+            list,
+            part: Layer::File,
+        })
     }
 }
 
-// Why a placing is refused, if it is.
-pub fn place_fault(set: &Set, file: &File, z: u32, words: &[u16], regs: &[u16]) -> Option<Fault>
-    ensures { result ≡ refuse_place (numbers_of set.now) (state_of file.now regs.now) z words.now }
+// Register memory has its length, as the list of this number.
+fn check_memory(list: u32, set: &Set, file: &File, regs: &[u16]) -> Result<(), Fault>
+    ensures { result ≡ told (bad_memory list (numbers_of set.now) (state_of file.now regs.now)) }
 {
-    if words.len() != width(set) {
-        return Some(Fault::Length {
-            list: 0,
-            part: Layer::File,
-        });
-    }
-    if !memory_fits(set, file, regs) {
-        return Some(Fault::Length {
-            list: 1,
-            part: Layer::File,
-        });
-    }
-    if let Some(register) = beyond(file, z) {
-        return Some(Fault::Register { register });
-    }
-    if let Some(word) = first_high(small(set), words) {
-        return Some(Fault::CipherWord {
-            word,
-            part: Layer::File,
-        });
-    }
-    None
+    check_length(list, regs.len(), memory_of(set, file.registers()))
 }
 
-// Why a reading is refused, if it is.
-pub fn read_fault(set: &Set, file: &File, x: u32, len: usize, regs: &[u16]) -> Option<Fault>
-    ensures { result ≡ refuse_read (numbers_of set.now) (state_of file.now regs.now) x len }
+// The registers that a call names are below R.
+#[tactic(auto, using(crate::proofs::Picks::outsides_filtered))]
+fn check_named(file: &File, names: &[u32]) -> Result<(), Fault>
+    ensures { result ≡ told (fault_at Fault.Register (outsides file.now.count names.now)) }
 {
-    if len != width(set) {
-        return Some(Fault::Length {
-            list: 0,
-            part: Layer::File,
-        });
+    match beyond(file, names) {
+        Some(register) => Err(Fault::Register { register }),
+        None => Ok(()),
     }
-    if !memory_fits(set, file, regs) {
-        return Some(Fault::Length {
-            list: 1,
-            part: Layer::File,
-        });
-    }
-    if let Some(register) = beyond(file, x) {
-        return Some(Fault::Register { register });
-    }
-    if let Some(register) = unfilled(file, x) {
-        return Some(Fault::Empty { register });
-    }
-    None
 }
 
-// The registers of an operation: those that it names, and then those that must be filled.
-fn registers_fault(file: &File, op: Op) -> Option<Fault>
-    ensures { result ≡ bad_registers (state_of file.now []) (named op) (used op) }
+// The registers that a call uses are filled.
+#[tactic(auto, using(crate::proofs::Picks::vacants_filtered))]
+fn check_used(file: &File, uses: &[u32]) -> Result<(), Fault>
+    ensures { result ≡ told (fault_at Fault.Empty (vacants (filled file.now) uses.now)) }
 {
-    if let Some(register) = beyond_all(file, op) {
-        return Some(Fault::Register { register });
+    match empty(file, uses) {
+        Some(register) => Err(Fault::Empty { register }),
+        None => Ok(()),
     }
-    if let Some(register) = empty_all(file, op) {
-        return Some(Fault::Empty { register });
-    }
-    None
 }
 
-// Why an operation is refused, if it is.
-pub fn op_fault(set: &Set, file: &File, op: Op, regs: &[u16]) -> Option<Fault>
-    ensures { result ≡ refuse_op (numbers_of set.now) (state_of file.now regs.now) op }
+// The registers of a call are below R, and those that it uses are filled.
+fn check_registers(file: &File, names: &[u32], uses: &[u32]) -> Result<(), Fault>
+    ensures { result ≡ told (bad_registers (state_of file.now []) names.now uses.now) }
 {
-    if !memory_fits(set, file, regs) {
-        return Some(Fault::Length {
-            list: 0,
-            part: Layer::File,
-        });
-    }
-    registers_fault(file, op)
+    check_named(file, names)?;
+    check_used(file, uses)
 }
 
-// The lists of a gate.
-fn lists_fault<S: Sweep>(set: &Set, file: &File, lists: Lists, regs: &[u16]) -> Option<Fault>
-    ensures { result ≡ gate_lists (numbers_of set.now) (S.Sweep.count set.now.within) lists (state_of file.now regs.now) }
+// Words are below q.
+#[tactic(auto, using(crate::proofs::Picks::high_position))]
+fn check_words(set: &Set, words: &[u16]) -> Result<(), Fault>
+    requires { length words.now ≤ 513 }
+    ensures { result ≡ told (fault_at (λ i. Fault.CipherWord i Layer.File) (first_high (numbers_of set.now).small 0 words.now)) }
 {
-    if lists.start != start_words(set) {
-        return Some(Fault::Length {
-            list: 0,
+    match first_high(small(set), words) {
+        Some(word) => Err(Fault::CipherWord {
+            word: word as u32,
             part: Layer::File,
-        });
+        }),
+        None => Ok(()),
     }
-    if lists.selectors != selector_words::<S>(set) {
-        return Some(Fault::Length {
-            list: 1,
-            part: Layer::File,
-        });
-    }
-    if lists.rows != row_words(set) {
-        return Some(Fault::Length {
-            list: 2,
-            part: Layer::File,
-        });
-    }
-    if !memory_fits(set, file, regs) {
-        return Some(Fault::Length {
-            list: 3,
-            part: Layer::File,
-        });
-    }
-    if lists.small != width(set) {
-        return Some(Fault::Length {
-            list: 4,
-            part: Layer::File,
-        });
-    }
-    if lists.work != gate_words(set) {
-        return Some(Fault::Length {
-            list: 5,
-            part: Layer::File,
-        });
-    }
-    if lists.scratch != set.degree() {
-        return Some(Fault::Length {
-            list: 6,
-            part: Layer::File,
-        });
-    }
-    None
 }
 
-// Why a gate is refused, if it is.
-pub fn gate_fault<S: Sweep>(
+// The lists of a gate have their lengths.
+fn check_lists<S: Sweep>(set: &Set, file: &File, lists: Lists, regs: &[u16]) -> Result<(), Fault>
+    ensures { result ≡ told (gate_lists (numbers_of set.now) (S.Sweep.count set.now.within) lists (state_of file.now regs.now)) }
+{
+    check_length(0, lists.start, start_words(set))?;
+    check_length(1, lists.selectors, selector_words::<S>(set))?;
+    check_length(2, lists.rows, row_words(set))?;
+    check_memory(3, set, file, regs)?;
+    check_length(4, lists.small, width(set))?;
+    check_length(5, lists.work, gate_words(set))?;
+    check_length(6, lists.scratch, set.degree())
+}
+
+// Each check below tells the least of the faults that are true of what the call was handed.
+
+// A file can be made.
+#[tactic(auto, using(crate::proofs::Refusals::new_least))]
+pub fn check_new(set: &Set, count: u32, len: usize) -> Result<(), Fault>
+    ensures answer { result ≡ told (refuse_new (numbers_of set.now) count len) }
+    ensures least { LeastNew (numbers_of set.now) count len }
+{
+    check_length(0, len, memory_of(set, count))?;
+    if 1 <= count && count <= 64 {
+        Ok(())
+    } else {
+        Err(Fault::Register { register: count })
+    }
+}
+
+// Words can be placed.
+#[tactic(auto, using(crate::proofs::Refusals::place_least))]
+pub fn check_place(set: &Set, file: &File, z: u32, words: &[u16], regs: &[u16]) -> Result<(), Fault>
+    ensures answer { result ≡ told (refuse_place (numbers_of set.now) (state_of file.now regs.now) z words.now) }
+    ensures least { LeastPlace (numbers_of set.now) (state_of file.now regs.now) z words.now }
+{
+    check_length(0, words.len(), width(set))?;
+    check_memory(1, set, file, regs)?;
+    check_named(file, &[z])?;
+    check_words(set, words)
+}
+
+// A register can be read.
+#[tactic(auto, using(crate::proofs::Refusals::read_least))]
+pub fn check_read(set: &Set, file: &File, x: u32, len: usize, regs: &[u16]) -> Result<(), Fault>
+    ensures answer { result ≡ told (refuse_read (numbers_of set.now) (state_of file.now regs.now) x len) }
+    ensures least { LeastRead (numbers_of set.now) (state_of file.now regs.now) x len }
+{
+    check_length(0, len, width(set))?;
+    check_memory(1, set, file, regs)?;
+    check_registers(file, &[x], &[x])
+}
+
+// An operation on register memory alone can be carried out.
+#[tactic(auto, using(crate::proofs::Refusals::op_least))]
+pub fn check_op(set: &Set, file: &File, op: Op, regs: &[u16]) -> Result<(), Fault>
+    ensures answer { result ≡ told (refuse_op (numbers_of set.now) (state_of file.now regs.now) op) }
+    ensures least { LeastOp (numbers_of set.now) (state_of file.now regs.now) op }
+{
+    check_memory(0, set, file, regs)?;
+    match op {
+        Op::Gate { letter: _, x, y, z } => check_registers(file, &[x, y, z], &[x, y]),
+        Op::Invert { x, z } | Op::Copy { x, z } => check_registers(file, &[x, z], &[x]),
+        Op::Clear { z } => check_registers(file, &[z], &[z]),
+    }
+}
+
+// A gate can be made.
+pub fn check_gate<S: Sweep>(
     set: &Set,
     file: &File,
     lists: Lists,
-    letter: Letter,
     x: u32,
     y: u32,
     z: u32,
     regs: &[u16],
-) -> Option<Fault>
-    ensures { result ≡ refuse_gate (numbers_of set.now) (S.Sweep.count set.now.within) lists (state_of file.now regs.now) x y z }
+) -> Result<(), Fault>
+    ensures answer { result ≡ told (refuse_gate (numbers_of set.now) (S.Sweep.count set.now.within) lists (state_of file.now regs.now) x y z) }
+    ensures least { LeastGate (numbers_of set.now) (S.Sweep.count set.now.within) lists (state_of file.now regs.now) x y z }
 {
-    if let Some(fault) = lists_fault::<S>(set, file, lists, regs) {
-        return Some(fault);
-    }
-    registers_fault(file, Op::Gate { letter, x, y, z })
+    check_lists::<S>(set, file, lists, regs)?;
+    check_registers(file, &[x, y, z], &[x, y])
 }

@@ -4,6 +4,7 @@ ghost use Rattle.std.specs.Prelude.{◌≤◌};
 #[derive(Drop)]
 pub struct File {
     count: u32,
+    // Kept: an array of fixed length, since no memory is allocated and want of memory is no cause.
     marks: [bool; 64],
     ghost some: { 1 ≤ count },
     ghost few: { count ≤ 64 },

@@ -3,12 +3,12 @@ ghost use Rattle.faults.specs.Least.{told};
 ghost use Rattle.gate.specs.Lengths.{start_length, selectors_length, rows_length, gate_work};
 ghost use Rattle.registers.specs.Marks.{state_of};
 ghost use Rattle.registers.specs.Registers.{numbers_of, wide, row_at, put_row};
-ghost use Rattle.registers.specs.Steps.{gates_by, refuse_gate, next_gate};
+ghost use Rattle.registers.specs.Steps.{lists_of, gates_by, refuse_gate, next_gate};
 ghost use Rattle.registers.specs.Wrong.{LeastGate};
 
+use crate::checks::check_gate;
 use crate::file::File;
 use crate::lists::Lists;
-use crate::refuse::refuse_gate;
 use faults::fault::Fault;
 use gate::in_place::gate_at;
 use gate::keys::Keys;
@@ -28,17 +28,15 @@ fn gate_row<K: Kernel, S: Sweep>(
     x: u32,
     y: u32,
     z: u32,
-    start: &[u32],
-    selectors: &[u32],
-    rows: &[u32],
+    keys: Keys<'_>,
     regs: &mut [u16],
     small: &mut [u16],
     work: &mut [u32],
     scratch: &mut [u32],
 )
-    requires start { length start.now ≡ start_length (numbers_of set.now) }
-    requires selectors { length selectors.now ≡ selectors_length (numbers_of set.now) (S.Sweep.count set.now.within) }
-    requires rows { length rows.now ≡ rows_length (numbers_of set.now) }
+    requires start { length keys.start.now ≡ start_length (numbers_of set.now) }
+    requires selectors { length keys.selectors.now ≡ selectors_length (numbers_of set.now) (S.Sweep.count set.now.within) }
+    requires rows { length keys.rows.now ≡ rows_length (numbers_of set.now) }
     requires whole { length regs.old ≡ count * wide (numbers_of set.now) }
     requires small { length small.old ≡ wide (numbers_of set.now) }
     requires work { length work.old ≡ gate_work (numbers_of set.now) }
@@ -46,13 +44,8 @@ fn gate_row<K: Kernel, S: Sweep>(
     requires x { x < count }
     requires y { y < count }
     requires z { z < count }
-    ensures { regs.new ≡ put_row (numbers_of set.now) z regs.old (gates_by S.Sweep.defined K.Kernel.reads S.Sweep.count set.now start.now selectors.now rows.now letter (row_at (wide (numbers_of set.now)) x regs.old) (row_at (wide (numbers_of set.now)) y regs.old)) }
+    ensures { regs.new ≡ put_row (numbers_of set.now) z regs.old (gates_by S.Sweep.defined K.Kernel.reads S.Sweep.count set.now keys.entry.start.now keys.entry.selectors.now keys.entry.rows.now letter (row_at (wide (numbers_of set.now)) x regs.old) (row_at (wide (numbers_of set.now)) y regs.old)) }
 {
-    let keys = Keys {
-        start,
-        selectors,
-        rows,
-    };
     let _ = gate_at(
         kernel, sweep, set, letter, x, y, z, keys, regs, small, work, scratch,
     );
@@ -68,35 +61,31 @@ pub(crate) fn gate_on<K: Kernel, S: Sweep>(
     x: u32,
     y: u32,
     z: u32,
-    start: &[u32],
-    selectors: &[u32],
-    rows: &[u32],
+    keys: Keys<'_>,
     regs: &mut [u16],
     small: &mut [u16],
     work: &mut [u32],
     scratch: &mut [u32],
 ) -> Result<(), Fault>
-    ensures answer { result ≡ told (refuse_gate (numbers_of set.now) (S.Sweep.count set.now.within) (record { start = length start.entry.now; selectors = length selectors.now; rows = length rows.now; small = length small.old; work = length work.old; scratch = length scratch.old }) (state_of file.old regs.old) x y z) }
-    ensures state { state_of file.new regs.new ≡ next_gate (gates_by S.Sweep.defined K.Kernel.reads S.Sweep.count set.now start.entry.now selectors.now rows.now) (numbers_of set.now) (S.Sweep.count set.now.within) (record { start = length start.entry.now; selectors = length selectors.now; rows = length rows.now; small = length small.old; work = length work.old; scratch = length scratch.old }) (state_of file.old regs.old) letter x y z }
+    ensures answer { result ≡ told (refuse_gate (numbers_of set.now) (S.Sweep.count set.now.within) (lists_of keys.entry.start.now keys.entry.selectors.now keys.entry.rows.now small.old work.old scratch.old) (state_of file.old regs.old) x y z) }
+    ensures state { state_of file.new regs.new ≡ next_gate (gates_by S.Sweep.defined K.Kernel.reads S.Sweep.count set.now keys.entry.start.now keys.entry.selectors.now keys.entry.rows.now) (numbers_of set.now) (S.Sweep.count set.now.within) (lists_of keys.entry.start.now keys.entry.selectors.now keys.entry.rows.now small.old work.old scratch.old) (state_of file.old regs.old) letter x y z }
     ensures small { small.new ≡ replicate (length small.old) 0 }
     ensures work { work.new ≡ replicate (length work.old) 0 }
     ensures scratch { scratch.new ≡ replicate (length scratch.old) 0 }
-    ensures least { LeastGate (numbers_of set.now) (S.Sweep.count set.now.within) (record { start = length start.entry.now; selectors = length selectors.now; rows = length rows.now; small = length small.old; work = length work.old; scratch = length scratch.old }) (state_of file.old regs.old) x y z }
+    ensures least { LeastGate (numbers_of set.now) (S.Sweep.count set.now.within) (lists_of keys.entry.start.now keys.entry.selectors.now keys.entry.rows.now small.old work.old scratch.old) (state_of file.old regs.old) x y z }
 {
     let little = Wiped { words: small };
     let room = Wiped { words: work };
     let spare = Wiped { words: scratch };
     let lists = Lists {
-        start: start.len(),
-        selectors: selectors.len(),
-        rows: rows.len(),
+        start: keys.start.len(),
+        selectors: keys.selectors.len(),
+        rows: keys.rows.len(),
         small: little.words.len(),
         work: room.words.len(),
         scratch: spare.words.len(),
     };
-    if let Some(fault) = refuse_gate::<S>(set, file, lists, letter, x, y, z, regs) {
-        return Err(fault);
-    }
+    check_gate::<S>(set, file, lists, x, y, z, regs)?;
     gate_row(
         kernel,
         sweep,
@@ -106,9 +95,7 @@ pub(crate) fn gate_on<K: Kernel, S: Sweep>(
         x,
         y,
         z,
-        start,
-        selectors,
-        rows,
+        keys,
         regs,
         little.words,
         room.words,

@@ -8,6 +8,5 @@ mod gates;
 pub mod lists;
 mod named;
 pub mod op;
-mod refuse;
 mod rows;
 pub mod sizes;

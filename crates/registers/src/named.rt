@@ -1,9 +1,18 @@
-ghost use Rattle.std.specs.Prelude.{◌≡◌, ◌*◌, ◌<◌, length};
+ghost use Rattle.std.specs.Prelude.{◌≡◌, ◌+◌, ◌*◌, ◌<◌, ◌≤◌, length};
 ghost use Rattle.registers.specs.Registers.{numbers_of, wide, row_at, put_row, remainders, opposite};
 
-use crate::rows;
+use crate::rows::{reduce, turn};
 use crate::sizes::{small, width};
 use set::checked::Set;
+
+// The place of the first word of the register x, of so many.
+fn place_of(set: &Set, count: u32, x: u32) -> usize
+    requires { x < count }
+    ensures place { result ≡ x * wide (numbers_of set.now) }
+    ensures inside { result + wide (numbers_of set.now) ≤ count * wide (numbers_of set.now) }
+{
+    x as usize * width(set)
+}
 
 // Copies words to the register z, of so many.
 pub fn put_at(set: &Set, count: u32, new: &[u16], regs: &mut [u16], z: u32)
@@ -12,7 +21,10 @@ pub fn put_at(set: &Set, count: u32, new: &[u16], regs: &mut [u16], z: u32)
     requires long { length new.now ≡ wide (numbers_of set.now) }
     ensures { regs.new ≡ put_row (numbers_of set.now) z regs.old new.now }
 {
-    rows::put(width(set), new, regs, z as usize);
+    let w = width(set);
+    let at = place_of(set, count, z);
+    let row = &mut regs[at..at + w];
+    row.copy_from_slice(new);
 }
 
 // Reads the register x.
@@ -22,7 +34,10 @@ pub fn take_at(set: &Set, count: u32, regs: &[u16], x: u32, out: &mut [u16])
     requires long { length out.old ≡ wide (numbers_of set.now) }
     ensures { out.new ≡ remainders (numbers_of set.now) (row_at (wide (numbers_of set.now)) x regs.now) }
 {
-    rows::take_out(width(set), small(set), regs, x as usize, out);
+    let w = width(set);
+    let at = place_of(set, count, x);
+    out.copy_from_slice(&regs[at..at + w]);
+    reduce(small(set), out);
 }
 
 // Copies the register x to z.
@@ -33,8 +48,11 @@ pub fn copy_at(set: &Set, count: u32, regs: &mut [u16], x: u32, z: u32)
     ensures { regs.new ≡ put_row (numbers_of set.now) z regs.old (remainders (numbers_of set.now) (row_at (wide (numbers_of set.now)) x regs.old)) }
 {
     let w = width(set);
-    rows::shift(w, regs, x as usize, z as usize);
-    rows::reduce_row(w, small(set), regs, z as usize);
+    let at = place_of(set, count, z);
+    let from = place_of(set, count, x);
+    regs.copy_within(from..from + w, at);
+    let row = &mut regs[at..at + w];
+    reduce(small(set), row);
 }
 
 // Writes the opposite bit of the register x to z.
@@ -45,6 +63,9 @@ pub fn invert_at(set: &Set, count: u32, regs: &mut [u16], x: u32, z: u32)
     ensures { regs.new ≡ put_row (numbers_of set.now) z regs.old (opposite (numbers_of set.now) (row_at (wide (numbers_of set.now)) x regs.old)) }
 {
     let w = width(set);
-    rows::shift(w, regs, x as usize, z as usize);
-    rows::turn_row(w, small(set), regs, z as usize);
+    let at = place_of(set, count, z);
+    let from = place_of(set, count, x);
+    regs.copy_within(from..from + w, at);
+    let row = &mut regs[at..at + w];
+    turn(small(set), row);
 }

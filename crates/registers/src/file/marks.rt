@@ -16,12 +16,6 @@ impl File {
     pub fn is_filled(&self, x: u32) -> bool
         ensures { result ≡ slice_index_or (filled self.now) x false }
     {
-        self.has_mark(x)
-    }
-
-    fn has_mark(&self, x: u32) -> bool
-        ensures { result ≡ slice_index_or (filled self.now) x false }
-    {
         x < self.count && self.marks[x as usize]
     }
 
@@ -39,6 +33,7 @@ impl File {
     }
 
     // Sets the mark of a register.
+    // Kept: the flag is the mark that is written, and picks no step.
     pub(crate) fn mark(&mut self, z: u32, on: bool)
         requires { z < self.old.count }
         ensures count { self.new.count ≡ self.old.count }

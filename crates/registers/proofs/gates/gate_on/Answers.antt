@@ -1,23 +1,17 @@
-use Rattle.std.proofs.Common.{ℕ, ◌*◌, ◌<◌, length, sym, refl, ap, ◌∙◌, subst, inl, inr}
+use Rattle.std.proofs.Common.{ℕ, ◌*◌, ◌<◌, sym, refl, ap, ◌∙◌, subst, inl, inr}
 use Rattle.registers.specs.declared.lists.Lists.{Lists}
 use Rattle.registers.specs.Marks.{state_of}
 use Rattle.registers.specs.Registers.{numbers_of, wide}
-use Rattle.registers.proofs.Accepted.{gate_accepted}
+use Rattle.registers.specs.Steps.{lists_of}
+use Rattle.registers.proofs.Accepted.{ok_none, refused, gate_accepted}
 use Rattle.registers.proofs.gates.gate_on.Goals as goal
 
 pub gate_row-requires : goal.gate_row-requires
 gate_row-requires g c =
     let set = c.args.set.now in
     let s = state_of c.args.file.now c.args.regs.now in
-    let lists : Lists = record {
-      start = length c.args.start.now;
-      selectors = length c.args.selectors.now;
-      rows = length c.args.rows.now;
-      small = length c.args.small.now;
-      work = length c.args.work.now;
-      scratch = length c.args.scratch.now;
-    } in
-    let a = gate_accepted (numbers_of set) (g.S.Sweep.count c.args.set.now.within) lists s c.args.x c.args.y c.args.z (sym c.in_default.ensures.answer) in
+    let lists : Lists = lists_of c.args.keys.start.now c.args.keys.selectors.now c.args.keys.rows.now c.args.small.now c.args.work.now c.args.scratch.now in
+    let a = gate_accepted (numbers_of set) (g.S.Sweep.count c.args.set.now.within) lists s c.args.x c.args.y c.args.z (ok_none _ c.in_ok-check_gate.field-0 c.in_ok-check_gate.ensures.answer) in
     let n = sym c.registers.ensures.value in
     record {
       start = a.start_long;
@@ -31,3 +25,6 @@ gate_row-requires g c =
       y = subst (λ (k : ℕ). c.args.y < k) n (a.ready.low c.args.y (inr (inl refl)));
       z = subst (λ (k : ℕ). c.args.z < k) n (a.ready.low c.args.z (inr (inr (inl refl))));
     }
+
+pub returns-in_err-check_gate-clause-state : goal.returns-in_err-check_gate-clause-state
+returns-in_err-check_gate-clause-state g c = refused _ _ _ _ c.in_err-check_gate.ensures.answer

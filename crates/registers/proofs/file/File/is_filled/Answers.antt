@@ -1,7 +1,7 @@
 use Rattle.std.proofs.Common.{false, take, sym, ◌∙◌, arith, length-take, get_or-take, le-ltb}
 use Rattle.std.proofs.lemmas.List.{get_or_past}
 use Rattle.registers.specs.Marks.{filled}
-use Rattle.registers.proofs.file.File.has_mark.Goals as goal
+use Rattle.registers.proofs.file.File.is_filled.Goals as goal
 
 pub returns-then-x-self : goal.returns-then-x-self
 unfolding filled
