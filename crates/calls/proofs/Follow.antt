@@ -17,7 +17,7 @@ use Rattle.gate.proofs.Holding.{answers as gate-answers, gate_long}
 use Rattle.gate.proofs.Opened.{bit_laws}
 use Rattle.registers.specs.Registers.{wide, row_at}
 use Rattle.registers.specs.Marks.{State}
-use Rattle.registers.specs.Steps.{Gates, either, fresh, refuse_place, refuse_read, words_read}
+use Rattle.registers.specs.Steps.{Gates, either, fresh, refuse_read, words_read}
 use Rattle.registers.proofs.Accepted.{place_accepted}
 use Rattle.registers.proofs.Memory.{row_long, row_fits}
 use Rattle.registers.proofs.Opposite.{remainders_long}

@@ -1,16 +1,16 @@
 -- The machine of plain bits answers each call as the file does, and goes on alike.
 use Rattle.std.proofs.Common.{◌≡◌, ℕ, zero, suc, ◌+◌, ◌*◌, ◌<◌, min, Bool, true, false, not, eqb, List, [], ◌∷◌, map, length, get_or, set, replicate, is_some, Some, None, Option, sym, refl, ap, ◌∙◌, inl, inr, add-zero, arith}
 use Rattle.std.proofs.lemmas.List.{length-replicate, length-set, map-set}
-use Rattle.std.proofs.lemmas.Bool.{cases_lt, eq-eqb, ne_eqb}
+use Rattle.std.proofs.lemmas.Bool.{cases_lt, ne_eqb}
 use Rattle.faults.specs.declared.fault.Fault.{Fault}
 use Rattle.faults.specs.declared.fault.Fault.TheVariants.{Length}
 use Rattle.faults.specs.declared.fault.Layer.{Layer}
 use Rattle.faults.specs.declared.fault.Layer.TheVariants.{File, Runner}
 use Rattle.faults.specs.Least.{or_else, unless}
 use Rattle.set.specs.declared.numbers.Numbers.{Numbers}
-use Rattle.gate.specs.declared.letter.Letter.{Letter}
 use Rattle.gate.specs.Letters.{bit_of}
 use Rattle.gate.specs.Lengths.{start_length, selectors_length, rows_length, gate_work}
+use Rattle.gate.proofs.Answers.{right_length, right_then}
 use Rattle.registers.specs.declared.lists.Lists.{Lists}
 use Rattle.registers.specs.declared.op.Op.{Op}
 use Rattle.registers.specs.declared.op.Op.TheVariants.{Gate, Invert, Copy, Clear}
@@ -48,16 +48,9 @@ rows5 (Some f) b c d e = refl
 both : {a b c d : Option Fault} → a ≡ c → b ≡ d → or_else a b ≡ or_else c d
 both {a} {b} {c} {d} e h = ap (λ (x : Option Fault). or_else x b) e ∙ ap (or_else c) h
 
--- a list of the right length refuses nothing
-passed : (f : Fault) (have want : ℕ) → have ≡ want → (rest : Option Fault) → or_else (unless (eqb have want) f) rest ≡ rest
-passed f have want e rest = ap (λ (b : Bool). or_else (unless b f) rest) (eq-eqb have want e)
-
-fits : (f : Fault) (have want : ℕ) → have ≡ want → unless (eqb have want) f ≡ None
-fits f have want e = ap (λ (b : Bool). unless b f) (eq-eqb have want e)
-
 module _ (m : Numbers) (s : State) (bits : Entries) (t : Tracks m s bits) where
   past_memory : (i : ℕ) (rest : Option Fault) → or_else (bad_memory i m s) rest ≡ rest
-  past_memory i rest = passed (Length i File) (length s.words) (s.count * wide m) t.whole rest
+  past_memory i rest = right_then (length s.words) (s.count * wide m) (Length i File) rest t.whole
 
   pub registers : (names uses : List ℕ) → bad_registers s names uses ≡ first_row (row10 s.count names ∷ row11 bits uses ∷ [])
   registers names uses =
@@ -87,9 +80,9 @@ module _ (m : Numbers) (s : State) (bits : Entries) (t : Tracks m s bits) where
 
   keys_fit : (part : Layer) (i count : ℕ) (lent : Lent) → bad_keys part i m count (lent_lists m count lent) ≡ None
   keys_fit part i count lent =
-      passed (Length i part) (start_length m) (start_length m) refl _
-      ∙ passed (Length (i + 1) part) (selectors_length m count) (selectors_length m count) refl _
-      ∙ fits (Length (i + 2) part) (rows_length m) (rows_length m) refl
+      right_then (start_length m) (start_length m) (Length i part) _ refl
+      ∙ right_then (selectors_length m count) (selectors_length m count) (Length (i + 1) part) _ refl
+      ∙ right_length (rows_length m) (rows_length m) (Length (i + 2) part) refl
 
   -- no word more is no more
   work_more : (part : Layer) (i : ℕ) (l : Lists)
@@ -105,9 +98,9 @@ module _ (m : Numbers) (s : State) (bits : Entries) (t : Tracks m s bits) where
       → gate_lists m count (lent_lists m count lent) s
       ≡ or_else (row7 File 4 (handed m lent).small (wide m)) (or_else (row7 File 5 (handed m lent).work (gate_work m)) (row7 File 6 (handed m lent).scratch m.degree))
   lent_lists_lem count lent =
-      passed (Length 0 File) (start_length m) (start_length m) refl _
-      ∙ passed (Length 1 File) (selectors_length m count) (selectors_length m count) refl _
-      ∙ passed (Length 2 File) (rows_length m) (rows_length m) refl _
+      right_then (start_length m) (start_length m) (Length 0 File) _ refl
+      ∙ right_then (selectors_length m count) (selectors_length m count) (Length 1 File) _ refl
+      ∙ right_then (rows_length m) (rows_length m) (Length 2 File) _ refl
       ∙ past_memory 3 _
 
   -- an operation as a call
@@ -124,7 +117,7 @@ module _ (m : Numbers) (s : State) (bits : Entries) (t : Tracks m s bits) where
   pub order_lists : (count : ℕ) (lent : Lent) → refuse_orders m count (lent_lists m count lent) s ≡ plain_lists m (handed m lent)
   order_lists count lent =
       ap (λ (a : Option Fault). or_else a (or_else (bad_list Runner 4 (length s.words) (s.count * wide m)) (bad_work Runner 5 0 m (lent_lists m count lent)))) (keys_fit Runner 1 count lent)
-      ∙ passed (Length 4 Runner) (length s.words) (s.count * wide m) t.whole _
+      ∙ right_then (length s.words) (s.count * wide m) (Length 4 Runner) _ t.whole
       ∙ work_more Runner 5 (lent_lists m count lent)
       ∙ sym (rows3 (row7 Runner 5 (handed m lent).small (wide m)) (row7 Runner 6 (handed m lent).work (gate_work m)) (row7 Runner 7 (handed m lent).scratch m.degree))
 

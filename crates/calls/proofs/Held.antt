@@ -25,7 +25,7 @@ use Rattle.registers.proofs.Opposite.{opposite_long, remainders_long}
 use Rattle.calls.specs.Plain.{Entries, the_bit, plain_place, plain_op, entered, unless_refused, bits_place, bits_op}
 use Rattle.calls.specs.Gated.{OnGate, RightGate}
 use Rattle.calls.specs.Followed.{Tracks, next_op}
-use Rattle.calls.specs.Held.{HoldsUnder, HeldAs, Held, BitsHeld}
+use Rattle.calls.specs.Held.{HoldsUnder, HeldAs, BitsHeld}
 use Rattle.calls.proofs.Lowest.{marks_at}
 use Rattle.calls.proofs.Followed.{places, operates, long_row}
 

@@ -1,7 +1,7 @@
 -- Each refusal of a run is the least of the faults that are true of it.
-use Rattle.std.proofs.Common.{◌≡◌, ℕ, ◌+◌, ◌*◌, ◌/◌, ◌%◌, ◌<◌, ◌≤◌, Bool, true, false, ◌&&◌, eqb, leb, ◌⊎◌, Some, None, Option, sym, refl, ap, ◌∙◌, subst, inl, inr, div-add-mod', mul-div_cancel, arith}
+use Rattle.std.proofs.Common.{◌≡◌, ℕ, ◌+◌, ◌*◌, ◌%◌, ◌<◌, ◌≤◌, true, false, ◌&&◌, eqb, leb, ◌⊎◌, Some, None, Option, sym, refl, ap, ◌∙◌, subst, inl, inr, arith}
 use native.Mathlib.Nat.{mul-mod_left}
-use Rattle.std.proofs.lemmas.Bool.{eqb-true, eqb-false, eq-eqb, ne_eqb, leb-true, leb-false, and_parts, and_cases}
+use Rattle.std.proofs.lemmas.Bool.{cases_eq, eqb-true, eqb-false, ne_eqb, leb-true, leb-false, and_parts, and_cases}
 use Rattle.faults.specs.declared.fault.Fault.{Fault}
 use Rattle.faults.specs.declared.fault.Fault.TheVariants.{Length, Register}
 use Rattle.faults.specs.declared.fault.Layer.TheVariants.{File, Runs}
@@ -9,15 +9,12 @@ use Rattle.faults.specs.Least.{Least, or_else, unless}
 use Rattle.faults.proofs.Least.{Rows, row_first, row_last}
 use Rattle.set.specs.declared.numbers.Numbers.{Numbers}
 use Rattle.gate.specs.Lengths.{start_length, selectors_length, rows_length, gate_work}
+use Rattle.gate.proofs.Answers.{right_then}
 use Rattle.registers.specs.declared.lists.Lists.{Lists}
 use Rattle.registers.specs.Registers.{wide}
 use Rattle.registers.specs.Steps.{refuse_new}
-use Rattle.calls.specs.Calls.{bad_list, bad_keys, bad_work}
+use Rattle.calls.specs.Calls.{bad_list}
 use Rattle.calls.specs.Runs.{run_lists, refuse_run, WrongRun, LeastRun}
-
-or_assoc : (a b c : Option Fault) → or_else (or_else a b) c ≡ or_else a (or_else b c)
-or_assoc None b c = refl
-or_assoc (Some f) b c = refl
 
 -- R outside its limits
 count_wrong : (R : ℕ) → (leb 1 R && leb R 64) ≡ false → ((1 ≤ R) × (R ≤ 64)) → ⊥
@@ -72,82 +69,24 @@ run_least m count R calls got reads regs l =
     (bad_list Runs 9 l.scratch (m.degree + 1)) (unless (leb 1 R && leb R 64) (Register R)))
     rows.least
 
--- a product, told by quotient and remainder
-rows_by : (n w rows : ℕ) → 0 < w → n / w * w ≡ n → (b : Bool) → eqb (n / w) rows ≡ b → b ≡ eqb n (rows * w)
-rows_by n w rows pos whole true e = sym (eq-eqb n (rows * w) (sym whole ∙ ap (λ (k : ℕ). k * w) (eqb-true (n / w) rows e)))
-rows_by n w rows pos whole false e = sym (ne_eqb n (rows * w) (λ p. eqb-false (n / w) rows e (ap (λ (k : ℕ). k / w) p ∙ mul-div_cancel rows pos)))
-
-pub rows_are : (n w rows : ℕ) → 0 < w → n % w ≡ 0 → eqb (n / w) rows ≡ eqb n (rows * w)
-rows_are n w rows pos h = rows_by n w rows pos (let e = div-add-mod' n w in omega arith) (eqb (n / w) rows) refl
-
+-- no product, told by a remainder
 pub rows_not : (n w rows : ℕ) → (n % w ≡ 0 → ⊥) → eqb (n % w) 0 ≡ eqb n (rows * w)
 rows_not n w rows h = ne_eqb (n % w) 0 h ∙ sym (ne_eqb n (rows * w) (λ e. h (ap (λ (k : ℕ). k % w) e ∙ mul-mod_left rows w)))
-
--- a run that is not refused: what its parts may rely on
-first_none : (a b : Option Fault) → or_else a b ≡ None → a ≡ None
-first_none None b e = refl
-first_none (Some f) b e = e
 
 rest_none : (a b : Option Fault) → or_else a b ≡ None → b ≡ None
 rest_none None b e = e
 rest_none (Some f) b e = absurd (let z : ◌≡◌ {A = ℕ} 0 1 = cc in omega arith)
 
-fit : (i have want : ℕ) → bad_list Runs i have want ≡ None → have ≡ want
-fit i have want e = eqb-true have want (passes (eqb have want) (Length i Runs) e)
-  where
-    passes : (b : Bool) (f : Fault) → unless b f ≡ None → b ≡ true
-    passes true f e = refl
-    passes false f e = absurd (let z : ◌≡◌ {A = ℕ} 0 1 = cc in omega arith)
+-- a run that is not refused has register memory of the right length, and its file is made
+regs_right : (m : Numbers) (count R calls got reads regs : ℕ) (l : Lists) → refuse_run m count R calls got reads regs l ≡ None → regs ≡ R * wide m
+regs_right m count R calls got reads regs l e =
+    let clean : (g : Fault) → WrongRun m count R calls got reads regs l g → ⊥ =
+    subst (Least (WrongRun m count R calls got reads regs l)) e (run_least m count R calls got reads regs l) in
+    elim (cases_eq regs (R * wide m)) [ inl h ↦ h | inr n ↦ absurd (clean (Length 6 Runs) (inr (inr (inr (inr (inr (inl (refl, n)))))))) ]
 
-pub record Ready (m : Numbers) (count R calls got reads regs : ℕ) (l : Lists) : Type 0 where
-  pub got_long : got ≡ calls
-  pub reads_long : reads ≡ calls * (wide m + 1)
-  pub start_long : l.start ≡ start_length m
-  pub selectors_long : l.selectors ≡ selectors_length m count
-  pub rows_long : l.rows ≡ rows_length m
-  pub regs_long : regs ≡ R * wide m
-  pub small_long : l.small ≡ wide m + 1
-  pub work_long : l.work ≡ gate_work m + 1
-  pub scratch_long : l.scratch ≡ m.degree + 1
-
-pub lists_ready : (m : Numbers) (count R calls got reads regs : ℕ) (l : Lists) → run_lists m count R calls got reads regs l ≡ None → Ready m count R calls got reads regs l
-lists_ready m count R calls got reads regs l e =
-    let a1 = bad_list Runs 1 got calls in
-    let a2 = bad_list Runs 2 reads (calls * (wide m + 1)) in
-    let keys = bad_keys Runs 3 m count l in
-    let memory = bad_list Runs 6 regs (R * wide m) in
-    let work = bad_work Runs 7 1 m l in
-    let r1 = rest_none a1 (or_else a2 (or_else keys (or_else memory work))) e in
-    let r2 = rest_none a2 (or_else keys (or_else memory work)) r1 in
-    let r3 = rest_none keys (or_else memory work) r2 in
-    let r4 = rest_none memory work r3 in
-    let k = first_none keys (or_else memory work) r2 in
-    let k1 = bad_list Runs 3 l.start (start_length m) in
-    let k2 = bad_list Runs 4 l.selectors (selectors_length m count) in
-    let k3 = bad_list Runs 5 l.rows (rows_length m) in
-    let w1 = bad_list Runs 7 l.small (wide m + 1) in
-    let w2 = bad_list Runs 8 l.work (gate_work m + 1) in
-    let w3 = bad_list Runs 9 l.scratch (m.degree + 1) in
-    record {
-      got_long = fit 1 got calls (first_none a1 (or_else a2 (or_else keys (or_else memory work))) e);
-      reads_long = fit 2 reads (calls * (wide m + 1)) (first_none a2 (or_else keys (or_else memory work)) r1);
-      start_long = fit 3 l.start (start_length m) (first_none k1 (or_else k2 k3) k);
-      selectors_long = fit 4 l.selectors (selectors_length m count) (first_none k2 k3 (rest_none k1 (or_else k2 k3) k));
-      rows_long = fit 5 l.rows (rows_length m) (rest_none k2 k3 (rest_none k1 (or_else k2 k3) k));
-      regs_long = fit 6 regs (R * wide m) (first_none memory work r3);
-      small_long = fit 7 l.small (wide m + 1) (first_none w1 (or_else w2 w3) r4);
-      work_long = fit 8 l.work (gate_work m + 1) (first_none w2 w3 (rest_none w1 (or_else w2 w3) r4));
-      scratch_long = fit 9 l.scratch (m.degree + 1) (rest_none w2 w3 (rest_none w1 (or_else w2 w3) r4));
-    }
-
-pub run_ready : (m : Numbers) (count R calls got reads regs : ℕ) (l : Lists) → refuse_run m count R calls got reads regs l ≡ None → Ready m count R calls got reads regs l
-run_ready m count R calls got reads regs l e =
-    lists_ready m count R calls got reads regs l (first_none (run_lists m count R calls got reads regs l) (unless (leb 1 R && leb R 64) (Register R)) e)
-
--- so the file is made
 pub file_made : (m : Numbers) (count R calls got reads regs : ℕ) (l : Lists) → refuse_run m count R calls got reads regs l ≡ None → refuse_new m R regs ≡ None
 file_made m count R calls got reads regs l e =
-    ap (λ (b : Bool). or_else (unless b (Length 0 File)) (unless (leb 1 R && leb R 64) (Register R))) (eq-eqb regs (R * wide m) (run_ready m count R calls got reads regs l e).regs_long)
+    right_then regs (R * wide m) (Length 0 File) (unless (leb 1 R && leb R 64) (Register R)) (regs_right m count R calls got reads regs l e)
     ∙ rest_none (run_lists m count R calls got reads regs l) (unless (leb 1 R && leb R 64) (Register R)) e
 
 pub never : {A : Type 0} (f : Fault) (r : Option Fault) → Some f ≡ r → r ≡ None → A

@@ -1,9 +1,6 @@
 use Rattle.std.proofs.Common.{arith}
-use Rattle.calls.proofs.Refused.{rows_are, rows_not}
+use Rattle.calls.proofs.Refused.{rows_not}
 use Rattle.calls.proofs.checks.is_product.Goals as goal
-
-pub returns-then-n-size-eq0 : goal.returns-then-n-size-eq0
-returns-then-n-size-eq0 c = rows_are c.args.n c.args.size c.args.rows c.requires (omega arith)
 
 pub returns-else-n-size-eq0 : goal.returns-else-n-size-eq0
 returns-else-n-size-eq0 c = rows_not c.args.n c.args.size c.args.rows (λ e. omega arith)

@@ -63,6 +63,3 @@ slice_bounds-slot-end g c =
     let room : c.loop-i.i * (c.cipher_words.result + 1) + (c.cipher_words.result + 1) ≤ length c.loop-i.reads =
     slot_room c.loop-i.i (length c.args.calls.now) (c.cipher_words.result + 1) (wide (numbers_of c.args.self.now.engine.now.set) + 1) (length c.loop-i.reads) sz (c.loop-i.auto.reads ∙ c.requires.reads) (omega arith) in
     omega arith
-
-pub bounds-got-i : goal.bounds-got-i
-bounds-got-i g c = omega arith
