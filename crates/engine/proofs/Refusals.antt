@@ -10,10 +10,9 @@ use Rattle.faults.specs.Least.{NoLater, Least, or_else}
 use Rattle.faults.proofs.Least.{least_or, row_first, row_last, no_later_by}
 use Rattle.set.specs.declared.numbers.Numbers.{Numbers}
 use Rattle.set.specs.declared.within.Within.{Within}
-use Rattle.set.specs.Limits.{WrongLimits}
-use Rattle.set.specs.Rules.{set_broken, WrongRules, WrongSet}
+use Rattle.set.specs.Rules.{set_broken, WrongSet}
 use Rattle.set.proofs.Limits.{Short, or_first, or_next, first_none, passes, peel}
-use Rattle.set.proofs.Rules.{set_least}
+use Rattle.set.proofs.Rules.{set_row, set_least}
 use Rattle.image.specs.Bytes.{words_of, all_zero}
 use Rattle.image.specs.Directory.{offset_of, length_of, end_of, part_at, gap_before, header_fits, span_fits, image_refused, WrongImage}
 use Rattle.image.proofs.Refusals.{image_least}
@@ -38,80 +37,6 @@ image_row image g w =
             [ inl a ↦ ap row_of a.0 | inr b ↦ elim b [ inl a ↦ ap row_of a.0 | inr b ↦ ap row_of b.0 ] ]
       ]
     ]
-
-abbrev Between : Fault → Type 0
-Between g = (1 < row_of g) × (row_of g < 6)
-
-limits_row : (n : Numbers) (g : Fault) → WrongLimits n g → row_of g ≡ 2
-limits_row n g w =
-    elim w [
-      | inl a ↦ ap row_of a.0
-      | inr b ↦ elim b [
-        | inl a ↦ ap row_of a.0
-        | inr b ↦ elim b [
-          | inl a ↦ ap row_of a.0
-          | inr b ↦ elim b [
-            | inl a ↦ ap row_of a.0
-            | inr b ↦ elim b [
-              | inl a ↦ ap row_of a.0
-              | inr b ↦ elim b [
-                | inl a ↦ ap row_of a.0
-                | inr b ↦ elim b [
-                  | inl a ↦ ap row_of a.0
-                  | inr b ↦ elim b [
-                    | inl a ↦ ap row_of a.0
-                    | inr b ↦ elim b [
-                      | inl a ↦ ap row_of a.0
-                      | inr b ↦ elim b [
-                        | inl a ↦ ap row_of a.0
-                        | inr b ↦ elim b [
-                          | inl a ↦ ap row_of a.0
-                          | inr b ↦ elim b [
-                            | inl a ↦ ap row_of a.0
-                            | inr b ↦ elim b [
-                              | inl a ↦ ap row_of a.0
-                              | inr b ↦ elim b [
-                                | inl a ↦ ap row_of a.0
-                                | inr b ↦ elim b
-                                    [ inl a ↦ ap row_of a.0 | inr b ↦ ap row_of b.0 ]
-                              ]
-                            ]
-                          ]
-                        ]
-                      ]
-                    ]
-                  ]
-                ]
-              ]
-            ]
-          ]
-        ]
-      ]
-    ]
-
-row_between : (g f : Fault) → g ≡ f → (1 < row_of f) → row_of f < 6 → Between g
-row_between g f e a b = let h = ap row_of e in (omega arith, omega arith)
-
-rules_row : (n : Numbers) (stated : ℕ) (g : Fault) → WrongRules n stated g → Between g
-rules_row n stated g w =
-    elim w [
-      | inl a ↦ row_between g _ a.0 (omega arith) (omega arith)
-      | inr b ↦ elim b [
-        | inl a ↦ row_between g _ a.0 (omega arith) (omega arith)
-        | inr b ↦ elim b [
-          | inl a ↦ row_between g _ a.0 (omega arith) (omega arith)
-          | inr b ↦ elim b [
-            | inl a ↦ row_between g _ a.0 (omega arith) (omega arith)
-            | inr b ↦ elim b
-                [ inl a ↦ row_between g _ a.0 (omega arith) (omega arith) | inr b ↦ row_between g _ b.0 (omega arith) (omega arith) ]
-          ]
-        ]
-      ]
-    ]
-
-set_row : (n : Numbers) (stated : ℕ) (g : Fault) → WrongSet n stated g → Between g
-set_row n stated g w =
-    elim w [ inl a ↦ (let e = limits_row n g a in (omega arith, omega arith)) | inr b ↦ rules_row n stated g b ]
 
 parts_row : (n : Numbers) (count : ℕ) (image : List ℕ) (g : Fault) → WrongParts n count image g → row_of g ≡ 6
 parts_row n count image g w =

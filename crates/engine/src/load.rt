@@ -34,6 +34,7 @@ fn accepted<'a, S: Sweep>(image: &'a [u8], lengths: &Lengths) -> Result<(Parts<'
 }
 
 // Key memory becomes the forms of the start key and of the selectors, and the rows.
+// Kept: four lists, for a struct that lends them would serve this one function.
 fn fill<K: Kernel>(
     kernel: &K,
     set: &Set,

@@ -17,6 +17,7 @@ fn cut(bytes: &[u8], from: usize, long: usize) -> &[u8]
 }
 
 // The bytes of a part, as far as they lie within the image.
+// Kept: a pair by its place, for an image that is refused has no parts to hand out.
 pub fn part_of(image: &[u8], pair: u32) -> &[u8]
     ensures bytes { result.now ≡ part_at image.now pair }
     ensures short { length result.now < 2 ^ 32 }

@@ -1,12 +1,12 @@
 -- What is refused first is the least fault that is true of an image.
-use Rattle.std.proofs.Common.{◌≡◌, ℕ, zero, suc, ◌+◌, ◌-◌, ◌<◌, ◌≤◌, Bool, true, false, ◌&&◌, eqb, leb, ◌⊎◌, List, [], ◌∷◌, length, get_or, drop, None, Option, sym, refl, ◌∙◌, subst, inl, inr, arith}
+use Rattle.std.proofs.Common.{◌≡◌, ℕ, zero, suc, ◌+◌, ◌-◌, ◌<◌, ◌≤◌, Bool, true, false, ◌&&◌, eqb, leb, ◌⊎◌, List, [], ◌∷◌, length, get_or, drop, None, sym, refl, ◌∙◌, subst, inl, inr, arith}
 use Rattle.std.proofs.lemmas.List.Edits.{get_or-between}
 use Rattle.std.proofs.lemmas.List.{length-take}
 use Rattle.std.proofs.lemmas.Bool.{leb-true, leb-false, eqb-true, eqb-false, and_parts, and_cases, both_ways}
-use Rattle.faults.specs.declared.fault.Fault.{Fault}
 use Rattle.faults.specs.declared.fault.Fault.TheVariants.{Directory}
-use Rattle.faults.specs.Least.{Least, or_else, unless}
+use Rattle.faults.specs.Least.{Least}
 use Rattle.faults.proofs.Least.{row_first, row_last}
+use Rattle.set.proofs.Limits.{peel, passes}
 use Rattle.image.specs.Bytes.{all_zero}
 use Rattle.image.specs.Directory.{count_of, offset_of, length_of, end_of, gap_before, header_fits, span_fits, image_refused, PartsInside, WrongSpan, WrongImage}
 
@@ -96,24 +96,15 @@ module _ (image : List ℕ) where
       (row_last (Directory 3) (span_fits image (end_of image 2) 3 && eqb (end_of image 3) (length image)) _
       (own-wrong (end_of image 2) 3 (end_of image 3) (length image)) (own-right (end_of image 2) 3 (end_of image 3) (length image))))))).least
 
-  -- the rows passed one by one
-  passed : (b : Bool) (f : Fault) (rest : Option Fault) → or_else (unless b f) rest ≡ None → (b ≡ true) × (rest ≡ None)
-  passed true f rest e = (refl, e)
-  passed false f rest e = absurd (let z : ◌≡◌ {A = ℕ} 0 1 = cc in omega arith)
-
-  at_last : (b : Bool) (f : Fault) → unless b f ≡ None → b ≡ true
-  at_last true f e = refl
-  at_last false f e = absurd (let z : ◌≡◌ {A = ℕ} 0 1 = cc in omega arith)
-
   pub parts_inside : image_refused image ≡ None → PartsInside image
   parts_inside e =
-      let w = passed _ _ _ e in
-      let x = passed _ _ _ w.1 in
-      let y = passed _ _ _ x.1 in
-      let z = passed _ _ _ y.1 in
+      let w = peel _ _ _ e in
+      let x = peel _ _ _ w.1 in
+      let y = peel _ _ _ x.1 in
+      let z = peel _ _ _ y.1 in
       record {
         zeroth = span_inside image 34 0 (and_parts (span_fits image 34 0) (eqb (length_of image 0) 64) x.0).0;
         first = span_inside image (end_of image 0) 1 y.0;
         second = span_inside image (end_of image 1) 2 z.0;
-        third = span_inside image (end_of image 2) 3 (and_parts (span_fits image (end_of image 2) 3) (eqb (end_of image 3) (length image)) (at_last _ _ z.1)).0;
+        third = span_inside image (end_of image 2) 3 (and_parts (span_fits image (end_of image 2) 3) (eqb (end_of image 3) (length image)) (passes _ _ z.1)).0;
       }

@@ -29,6 +29,7 @@ pub fn word_at(bytes: &[u8], at: usize) -> u32
 }
 
 // The sixteen numbers of a set part.
+// Kept: an array of words taken apart by a pattern would not say where each number lies.
 pub fn numbers(part: &[u8]) -> Numbers
     ensures { result ≡ numbers_of part.now }
 {

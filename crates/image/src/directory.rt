@@ -6,6 +6,7 @@ use crate::bytes::{all_zero, word_at};
 use faults::fault::Fault;
 
 // Where part `pair` starts, as the directory tells.
+// Kept: a pair is a place that is reckoned with and that a fault tells, and a narrower type would ask more of callers.
 pub fn offset_of(image: &[u8], pair: u32) -> u32
     ensures { result ≡ offset_of image.now pair }
 {

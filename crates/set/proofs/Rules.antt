@@ -17,7 +17,7 @@ use Rattle.rings.proofs.Refusals.{degree_of, modulus_of, root_of}
 use Rattle.set.specs.declared.numbers.Numbers.{Numbers}
 use Rattle.set.specs.Limits.{Limits, WrongLimits, limits_broken}
 use Rattle.set.specs.Noise.{swept_noise, switch_noise}
-use Rattle.set.specs.Rules.{gate_noise, Rules, WrongRules, WrongSet, closing_broken, rules_broken, set_broken}
+use Rattle.set.specs.Rules.{gate_noise, Rules, WrongRules, WrongSet, closing_broken, rules_broken, set_broken, LimitsTold, RulesTold}
 use Rattle.set.proofs.Limits.{Tests, Short, tests_of, limits_of, limits_least, passes, peel, or_first, or_next}
 
 -- a row that passes is passed over
@@ -182,6 +182,13 @@ keeps_limits n s l =
       ]
     ])
 
+-- the same, of numbers of 32 bits and of numbers within their limits
+pub limits_told : (n : Numbers) → Short n → LimitsTold n
+limits_told n short = ((λ e. limits_of n (ap (λ (o : Option Fault). is_some o) e)), keeps_limits n short)
+
+pub rules_told : (n : Numbers) (stated : ℕ) → is_some (limits_broken n) ≡ false → RulesTold n stated
+rules_told n stated fit = (rules_of n stated fit, keeps_rules n stated)
+
 -- the rules in turn, as the gadgets, the ring and the closing tell them
 module _ (n : Numbers) (stated : ℕ) (fit : is_some (limits_broken n) ≡ false) where
   pub cover_first : (f : Fault) → ring_gadget_broken n.modulus n.dropped n.base n.digits ≡ Some f → rules_broken n stated ≡ Some f
@@ -215,7 +222,7 @@ module _ (n : Numbers) (stated : ℕ) (fit : is_some (limits_broken n) ≡ false
       past_switch a b ∙ or_next (unless (eqb (n.root ^ n.degree % n.modulus) (n.modulus - 1)) Root) (closing_broken n stated) (sym (root_only n (limits_of n fit)) ∙ e)
 
 -- limits come before the other rules
-pub limits_row : (n : Numbers) (g : Fault) → WrongLimits n g → row_of g ≡ 2
+limits_row : (n : Numbers) (g : Fault) → WrongLimits n g → row_of g ≡ 2
 limits_row n g w =
     elim w [
       | inl a ↦ ap row_of a.0
@@ -262,21 +269,31 @@ limits_row n g w =
       ]
     ]
 
-rules_row : (n : Numbers) (stated : ℕ) (g : Fault) → WrongRules n stated g → 2 < row_of g
+row_between : (g f : Fault) → g ≡ f → 2 < row_of f → row_of f < 6 → (2 < row_of g) × (row_of g < 6)
+row_between g f e a b = let h = ap row_of e in (omega arith, omega arith)
+
+rules_row : (n : Numbers) (stated : ℕ) (g : Fault) → WrongRules n stated g → (2 < row_of g) × (row_of g < 6)
 rules_row n stated g w =
     elim w [
-      | inl a ↦ (let e = ap row_of a.0 in omega arith)
+      | inl a ↦ row_between g _ a.0 (omega arith) (omega arith)
       | inr b ↦ elim b [
-        | inl a ↦ (let e = ap row_of a.0 in omega arith)
+        | inl a ↦ row_between g _ a.0 (omega arith) (omega arith)
         | inr b ↦ elim b [
-          | inl a ↦ (let e = ap row_of a.0 in omega arith)
+          | inl a ↦ row_between g _ a.0 (omega arith) (omega arith)
           | inr b ↦ elim b [
-            | inl a ↦ (let e = ap row_of a.0 in omega arith)
+            | inl a ↦ row_between g _ a.0 (omega arith) (omega arith)
             | inr b ↦ elim b
-                [ inl a ↦ (let e = ap row_of a.0 in omega arith) | inr b ↦ (let e = ap row_of b.0 in omega arith) ]
+                [ inl a ↦ row_between g _ a.0 (omega arith) (omega arith) | inr b ↦ row_between g _ b.0 (omega arith) (omega arith) ]
           ]
         ]
       ]
+    ]
+
+pub set_row : (n : Numbers) (stated : ℕ) (g : Fault) → WrongSet n stated g → (1 < row_of g) × (row_of g < 6)
+set_row n stated g w =
+    elim w [
+      | inl a ↦ (let e = limits_row n g a in (omega arith, omega arith))
+      | inr b ↦ (let r = rules_row n stated g b in (omega arith, omega arith))
     ]
 
 pub set_least : (n : Numbers) (stated : ℕ) → Short n → Least (WrongSet n stated) (set_broken n stated)

@@ -83,6 +83,7 @@ fn check_limits(n: &Numbers) -> Result<(), Fault>
 }
 
 // Sixteen numbers, each within its limits.
+#[tactic(auto, using(crate::proofs::Rules::limits_told, crate::proofs::Limits::limits_least))]
 pub fn within(numbers: Numbers) -> Result<Within, Fault>
     ensures answer { refusal result ≡ limits_broken numbers }
     ensures made { IfOk result (λ w. w.numbers ≡ numbers) }
@@ -94,6 +95,7 @@ pub fn within(numbers: Numbers) -> Result<Within, Fault>
 }
 
 // Numbers within their limits, checked for a stated noise.
+#[tactic(auto, using(crate::proofs::Rules::rules_told, crate::proofs::Rules::rules_least))]
 pub fn checked(within: Within, stated: u64) -> Result<Set, Fault>
     ensures answer { refusal result ≡ rules_broken within.numbers stated }
     ensures made { IfOk result (λ s. (s.within.numbers ≡ within.numbers) × (s.stated ≡ stated)) }
@@ -115,6 +117,7 @@ pub fn checked(within: Within, stated: u64) -> Result<Set, Fault>
 }
 
 // Sixteen numbers checked for the sweep of these steps.
+#[tactic(auto, using(crate::proofs::Rules::set_least))]
 pub fn set_for(numbers: Numbers, steps: Steps) -> Result<Set, Fault>
     ensures answer { refusal result ≡ set_broken numbers (stated_noise steps numbers) }
     ensures made { IfOk result (λ s. (s.within.numbers ≡ numbers) × (s.stated ≡ stated_noise steps numbers)) }

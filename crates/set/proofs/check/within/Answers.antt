@@ -1,24 +1,8 @@
 use Rattle.std.proofs.Common.{◌≡◌, false, is_some, Option, sym, ap, arith}
 use Rattle.faults.specs.declared.fault.Fault.{Fault}
-use Rattle.set.specs.declared.numbers.Numbers.{Numbers}
 use Rattle.set.specs.Limits.{limits_broken}
-use Rattle.set.specs.Rules.{LimitsTold}
-use Rattle.set.proofs.Limits.{Short, limits_least, limits_of}
-use Rattle.set.proofs.Rules.{keeps_limits}
+use Rattle.set.proofs.Limits.{limits_of}
 use Rattle.set.proofs.check.within.Goals as goal
-
-told_of : (n : Numbers) → Short n → LimitsTold n
-told_of n short = ((λ e. limits_of n (ap (λ (o : Option Fault). is_some o) e)), keeps_limits n short)
-
-pub returns-in_err-check_limits-clause-rules : goal.returns-in_err-check_limits-clause-rules
-returns-in_err-check_limits-clause-rules c =
-    told_of c.args.numbers
-    (record { degree_short = omega arith; small_short = omega arith; dropped_short = omega arith; base_short = omega arith; switch_short = omega arith; radix_short = omega arith })
-
-pub returns-in_err-check_limits-clause-least : goal.returns-in_err-check_limits-clause-least
-returns-in_err-check_limits-clause-least c =
-    limits_least c.args.numbers
-    (record { degree_short = omega arith; small_short = omega arith; dropped_short = omega arith; base_short = omega arith; switch_short = omega arith; radix_short = omega arith })
 
 pub invariant_of-result : goal.invariant_of-result
 invariant_of-result c =
@@ -38,13 +22,3 @@ invariant_of-result c =
       switching = (omega (arith, q, s), s.1, l.radix_ok.1.1, l.places_ok.0, l.places_ok.1);
       last = (l.jitter_ok.1, omega (arith, b, q, d));
     }
-
-pub returns-clause-rules : goal.returns-clause-rules
-returns-clause-rules c =
-    told_of c.args.numbers
-    (record { degree_short = omega arith; small_short = omega arith; dropped_short = omega arith; base_short = omega arith; switch_short = omega arith; radix_short = omega arith })
-
-pub returns-clause-least : goal.returns-clause-least
-returns-clause-least c =
-    limits_least c.args.numbers
-    (record { degree_short = omega arith; small_short = omega arith; dropped_short = omega arith; base_short = omega arith; switch_short = omega arith; radix_short = omega arith })
