@@ -47,7 +47,12 @@ pub fn check_lists(set: &Set, count: usize, lengths: &Lengths) -> Result<(), Fau
     ensures { refusal result ≡ load_lists set.now.within.numbers count lengths.now.start lengths.now.selectors lengths.now.rows lengths.now.scratch }
 {
     check_length(Layer::Image, 1, lengths.start, set.key_words())?;
-    check_length(Layer::Image, 2, lengths.selectors, set.selector_words(count))?;
+    check_length(
+        Layer::Image,
+        2,
+        lengths.selectors,
+        set.selector_words(count),
+    )?;
     check_length(Layer::Image, 3, lengths.rows, set.row_words())?;
     check_length(Layer::Image, 4, lengths.scratch, set.degree())
 }

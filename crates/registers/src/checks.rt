@@ -39,7 +39,12 @@ fn empty(file: &File, uses: &[u32]) -> Option<u32>
 fn check_memory(list: u32, set: &Set, file: &File, regs: &[u16]) -> Result<(), Fault>
     ensures { result ≡ told (bad_memory list (numbers_of set.now) (state_of file.now regs.now)) }
 {
-    check_length(Layer::File, list, regs.len(), memory_of(set, file.registers()))
+    check_length(
+        Layer::File,
+        list,
+        regs.len(),
+        memory_of(set, file.registers()),
+    )
 }
 
 // The registers that a call names are below R.

@@ -89,7 +89,10 @@ pub fn make_keys<S: Sweep>(
         (secrets.s.len(), set.dimension()),
         (samples.len(), noise_count + row_count),
         (keys.start.len(), size),
-        (keys.selectors.len(), set.selector_words(S::selectors(&set.within))),
+        (
+            keys.selectors.len(),
+            set.selector_words(S::selectors(&set.within)),
+        ),
         (keys.rows.len(), row_count),
         (noise.words.len(), n),
         (product.words.len(), n),
