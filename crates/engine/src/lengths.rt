@@ -12,11 +12,7 @@ use set::checked::Set;
 fn part(right: bool, pair: u32) -> Result<(), Fault>
     ensures { refusal result ≡ unless right (Fault.PartLength pair) }
 {
-    if right {
-        Ok(())
-    } else {
-        Err(Fault::PartLength { pair })
-    }
+    Fault::PartLength { pair }.unless(right)
 }
 
 // The parts of an image have their lengths.

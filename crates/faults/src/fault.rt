@@ -1,5 +1,6 @@
 ghost use Rattle.std.specs.Prelude.{◌≡◌, Some};
 ghost use Rattle.faults.specs.Causes.{number_of, place_of, layer_of};
+ghost use Rattle.faults.specs.Least.{refusal, told, unless};
 ghost use Rattle.faults.specs.Texts.{layer_text, place_text, fault_text};
 
 use std::error::Error;
@@ -87,6 +88,14 @@ impl Fault {
             Fault::Sample { .. } => 15,
             Fault::Phase { .. } => 16,
         }
+    }
+
+    // Refused with this fault, unless a test passes.
+    pub fn unless(self, passes: bool) -> Result<(), Fault>
+        ensures answer { result ≡ told (unless passes self) }
+        ensures refused { refusal result ≡ unless passes self }
+    {
+        if passes { Ok(()) } else { Err(self) }
     }
 
     // Where the fault lies.

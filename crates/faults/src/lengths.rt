@@ -7,9 +7,5 @@ use crate::fault::{Fault, Layer};
 pub fn check_length(part: Layer, list: u32, have: usize, want: usize) -> Result<(), Fault>
     ensures { result ≡ told (unless (have == want) (Fault.Length list part)) }
 {
-    if have == want {
-        Ok(())
-    } else {
-        Err(Fault::Length { list, part })
-    }
+    Fault::Length { list, part }.unless(have == want)
 }

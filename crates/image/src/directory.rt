@@ -46,11 +46,7 @@ fn span_fits(image: &[u8], from: usize, pair: u32) -> bool
 fn pair(passes: bool, pair: u32) -> Result<(), Fault>
     ensures { refusal result ≡ unless passes (Fault.Directory pair) }
 {
-    if passes {
-        Ok(())
-    } else {
-        Err(Fault::Directory { pair })
-    }
+    Fault::Directory { pair }.unless(passes)
 }
 
 // The pairs in turn.

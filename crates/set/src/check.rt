@@ -24,11 +24,7 @@ fn is_even_within(x: u32) -> bool
 fn field(passes: bool, field: u32) -> Result<(), Fault>
     ensures { refusal result ≡ unless passes (Fault.Field field) }
 {
-    if passes {
-        Ok(())
-    } else {
-        Err(Fault::Field { field })
-    }
+    Fault::Field { field }.unless(passes)
 }
 
 // N, n, q, Q and ψ.

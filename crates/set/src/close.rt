@@ -35,11 +35,7 @@ fn room(within: &Within) -> u128
 fn closing(holds: bool, condition: u32) -> Result<(), Fault>
     ensures { refusal result ≡ unless holds (Fault.Closing condition) }
 {
-    if holds {
-        Ok(())
-    } else {
-        Err(Fault::Closing { condition })
-    }
+    Fault::Closing { condition }.unless(holds)
 }
 
 // The three closing conditions, in turn.
