@@ -1,10 +1,27 @@
 -- Registers within their memory.
-use Rattle.std.proofs.Common.{◌≡◌, ℕ, ◌+◌, ◌-◌, ◌*◌, ◌≤◌, List, ◌++◌, length, take, drop, sym, ap, ap₂, ◌∙◌, arith, length-take}
+use Rattle.std.proofs.Common.{◌≡◌, ℕ, ◌+◌, ◌-◌, ◌*◌, ◌≤◌, max, List, ◌++◌, length, take, drop, sym, ap, ap₂, ◌∙◌, mul-le-mul_right, arith, length-take}
 use borrow.Rule.Slice.PartMut.{put_mid}
 use Rattle.std.proofs.lemmas.List.{take_at, drop_at, drop-drop}
 use Rattle.set.specs.declared.numbers.Numbers.{Numbers}
 use Rattle.gate.specs.Lengths.{words_of}
-use Rattle.gate.specs.Gates.{register_at, with_register}
+use Rattle.gate.specs.Gates.{reach_of, register_at, with_register}
+
+-- a register no higher than the top one
+under : (i top w len : ℕ) → i ≤ top → (top + 1) * w ≤ len → i * w + w ≤ len
+under i top w len h l = let k : (i + 1) * w ≤ (top + 1) * w = mul-le-mul_right w (omega arith) in omega arith
+
+module _ (n : Numbers) (x y z len : ℕ) (e : len ≡ max len (reach_of n x y z)) where
+  within : reach_of n x y z ≤ len
+  within = omega arith
+
+  pub x_within : x * words_of n + words_of n ≤ len
+  x_within = under x (max (max x y) z) (words_of n) len (omega arith) within
+
+  pub y_within : y * words_of n + words_of n ≤ len
+  y_within = under y (max (max x y) z) (words_of n) len (omega arith) within
+
+  pub z_within : z * words_of n + words_of n ≤ len
+  z_within = under z (max (max x y) z) (words_of n) len (omega arith) within
 
 -- the new words stand at their register
 pub register_new : (n : Numbers) (registers new : List ℕ) (z : ℕ) → z * words_of n + words_of n ≤ length registers → length new ≡ words_of n

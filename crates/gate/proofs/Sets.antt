@@ -1,6 +1,6 @@
 -- What a checked set tells of its numbers.
-use Rattle.std.proofs.Common.{◌≡◌, ℕ, zero, suc, ◌+◌, ◌-◌, ◌*◌, ◌/◌, ◌%◌, ◌^◌, ◌<◌, ◌≤◌, ◌⊎◌, sym, refl, ap, ◌∙◌, subst, inl, inr, mod-lt, zero-mul, mul-div_cancel, arith}
-use native.Mathlib.Nat.{mul-mod_left, mul-lt-mul_of_pos_left}
+use Rattle.std.proofs.Common.{◌≡◌, ℕ, suc, ◌+◌, ◌-◌, ◌*◌, ◌/◌, ◌%◌, ◌^◌, ◌<◌, ◌≤◌, ◌⊎◌, sym, refl, ap, ◌∙◌, subst, inl, inr, mul-div_cancel, arith}
+use native.Mathlib.Nat.{mul-mod_left}
 use Rattle.std.proofs.lemmas.Nat.{pow_below, pow_pos, pow-add}
 use Rattle.std.proofs.lemmas.Bool.{cases_order}
 use Rattle.algebra.specs.Digits.{Covers}
@@ -92,19 +92,3 @@ module _ (set : Set) where
       set.within.numbers.weight (switch_noise set.within.numbers.degree set.within.numbers.places set.within.numbers.radix set.within.numbers.jitter)
       set.within.numbers.ones set.within.numbers.bound
   closes = rules.closes
-
--- a power of Y below q is a power of X below 2N
-pub turn_below : (w : Within) (b : ℕ)
-    → (w.numbers.degree + w.numbers.degree) / w.numbers.small * (b % w.numbers.small) < w.numbers.degree + w.numbers.degree
-turn_below w b =
-    let N2 : ℕ = w.numbers.degree + w.numbers.degree in
-    let q : ℕ = w.numbers.small in
-    let e = circle w in
-    let some : 0 < w.numbers.small = (let h = w.moduli.0 in omega arith) in
-    let l : b % w.numbers.small < w.numbers.small = mod-lt b some in
-    subst (λ (m : ℕ). (w.numbers.degree + w.numbers.degree) / w.numbers.small * (b % w.numbers.small) < m) (sym e)
-    (mul-lt-mul_of_pos_left l (positive ((w.numbers.degree + w.numbers.degree) / w.numbers.small) w.numbers.small w.numbers.degree e w.lengths.0))
-  where
-    positive : (u q N : ℕ) → N + N ≡ u * q → 16 ≤ N → 0 < u
-    positive zero q N e h = absurd (omega (arith, zero-mul q))
-    positive (suc u) q N e h = omega arith
