@@ -56,6 +56,7 @@ pub fn copy_at(set: &Set, count: u32, regs: &mut [u16], x: u32, z: u32)
 }
 
 // Writes the opposite bit of the register x to z.
+// Kept: like copy_at but for its last call; one function for both would take that call with its law, which is no plainer.
 pub fn invert_at(set: &Set, count: u32, regs: &mut [u16], x: u32, z: u32)
     requires whole { length regs.old ≡ count * wide (numbers_of set.now) }
     requires from { x < count }
