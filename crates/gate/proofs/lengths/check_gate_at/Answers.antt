@@ -6,11 +6,11 @@ pub returns : goal.returns
 returns c =
     let n = c.args.set.now.within.numbers in
     let d = c.degree.ensures.value in
-    let w = c.words_of.ensures.value in
-    let k = c.start_length.ensures in
-    let s = c.selectors_length.ensures in
-    let r = c.rows_length.ensures in
-    let g = c.gate_work.ensures in
+    let w = c.cipher_words.ensures.value in
+    let k = c.key_words.ensures.value in
+    let s = c.selector_words.ensures.value c.requires in
+    let r = c.row_words.ensures.value in
+    let g = c.gate_words.ensures.value in
     let t = c.max.ensures ∙ ap (λ (m : ℕ). max (length c.args.registers.now) m) c.reach.ensures in
     let a = c.check_lengths.ensures.answer in
     record {
