@@ -1,4 +1,4 @@
-use Rattle.std.proofs.Common.{ap, ◌∙◌}
+use Rattle.std.proofs.Common.{◌∙◌}
 use Rattle.transform.proofs.Folding.{fold_at}
 use Rattle.transform.proofs.pointwise.fold_forms.Goals as goal
 
