@@ -13,7 +13,7 @@ use Rattle.gate.proofs.Answers.{right_then}
 use Rattle.registers.specs.declared.lists.Lists.{Lists}
 use Rattle.registers.specs.Registers.{wide}
 use Rattle.registers.specs.Steps.{refuse_new}
-use Rattle.calls.specs.Calls.{bad_list}
+use Rattle.registers.specs.Steps.{bad_list}
 use Rattle.calls.specs.Runs.{run_lists, refuse_run, WrongRun, LeastRun}
 
 -- R outside its limits

@@ -22,11 +22,11 @@ loop-i-preserved g c =
     let count : ℕ = g.S.Sweep.count c.args.self.now.engine.now.set.within in
     let gates : Gates = gates_by g.S.Sweep.defined g.K.Kernel.reads g.S.Sweep.count c.args.self.now.engine.now.set c.args.self.now.keys.start.now c.args.self.now.keys.selectors.now c.args.self.now.keys.rows.now in
     let begun : State = state_of c.args.file.now c.args.regs.now in
-    let size : ℕ = c.cipher_words.result + 1 in
-    let at : ℕ = c.loop-i.i * (c.cipher_words.result + 1) in
-    let sz = size_is c.args.self.now.engine.now.set c.set.result.now c.cipher_words.result c.set.ensures c.cipher_words.ensures.value in
-    let room : c.loop-i.i * (c.cipher_words.result + 1) + (c.cipher_words.result + 1) ≤ length c.loop-i.reads =
-    slot_room c.loop-i.i (length c.args.calls.now) (c.cipher_words.result + 1) (wide (numbers_of c.args.self.now.engine.now.set) + 1) (length c.loop-i.reads) sz (c.loop-i.auto.reads ∙ c.requires.reads) (omega arith) in
+    let size : ℕ = c.cipher_words-size.result + 1 in
+    let at : ℕ = c.loop-i.i * (c.cipher_words-size.result + 1) in
+    let sz = size_is c.args.self.now.engine.now.set c.set.result.now c.cipher_words-size.result c.set.ensures c.cipher_words-size.ensures.value in
+    let room : c.loop-i.i * (c.cipher_words-size.result + 1) + (c.cipher_words-size.result + 1) ≤ length c.loop-i.reads =
+    slot_room c.loop-i.i (length c.args.calls.now) (c.cipher_words-size.result + 1) (wide (numbers_of c.args.self.now.engine.now.set) + 1) (length c.loop-i.reads) sz (c.loop-i.auto.reads ∙ c.requires.reads) (omega arith) in
     serve_more gates m count c.args.calls.now begun c.loop-i.i size at (at + size - at) (state_of c.loop-i.file c.loop-i.regs) (state_of c.serve.new.file c.serve.new.regs)
     c.loop-i.got c.loop-i.reads c.serve.new.slot c.serve.result _ (omega arith) (omega arith) sz refl
     room
@@ -45,21 +45,21 @@ returns g c =
 
 pub overflow_add-slot : goal.overflow_add-slot
 overflow_add-slot g c =
-    let sz = size_is c.args.self.now.engine.now.set c.set.result.now c.cipher_words.result c.set.ensures c.cipher_words.ensures.value in
-    let room : c.loop-i.i * (c.cipher_words.result + 1) + (c.cipher_words.result + 1) ≤ length c.loop-i.reads =
-    slot_room c.loop-i.i (length c.args.calls.now) (c.cipher_words.result + 1) (wide (numbers_of c.args.self.now.engine.now.set) + 1) (length c.loop-i.reads) sz (c.loop-i.auto.reads ∙ c.requires.reads) (omega arith) in
+    let sz = size_is c.args.self.now.engine.now.set c.set.result.now c.cipher_words-size.result c.set.ensures c.cipher_words-size.ensures.value in
+    let room : c.loop-i.i * (c.cipher_words-size.result + 1) + (c.cipher_words-size.result + 1) ≤ length c.loop-i.reads =
+    slot_room c.loop-i.i (length c.args.calls.now) (c.cipher_words-size.result + 1) (wide (numbers_of c.args.self.now.engine.now.set) + 1) (length c.loop-i.reads) sz (c.loop-i.auto.reads ∙ c.requires.reads) (omega arith) in
     search rules
 
 pub offset_bounds-reads-at : goal.offset_bounds-reads-at
 offset_bounds-reads-at g c =
-    let sz = size_is c.args.self.now.engine.now.set c.set.result.now c.cipher_words.result c.set.ensures c.cipher_words.ensures.value in
-    let room : c.loop-i.i * (c.cipher_words.result + 1) + (c.cipher_words.result + 1) ≤ length c.loop-i.reads =
-    slot_room c.loop-i.i (length c.args.calls.now) (c.cipher_words.result + 1) (wide (numbers_of c.args.self.now.engine.now.set) + 1) (length c.loop-i.reads) sz (c.loop-i.auto.reads ∙ c.requires.reads) (omega arith) in
+    let sz = size_is c.args.self.now.engine.now.set c.set.result.now c.cipher_words-size.result c.set.ensures c.cipher_words-size.ensures.value in
+    let room : c.loop-i.i * (c.cipher_words-size.result + 1) + (c.cipher_words-size.result + 1) ≤ length c.loop-i.reads =
+    slot_room c.loop-i.i (length c.args.calls.now) (c.cipher_words-size.result + 1) (wide (numbers_of c.args.self.now.engine.now.set) + 1) (length c.loop-i.reads) sz (c.loop-i.auto.reads ∙ c.requires.reads) (omega arith) in
     search rules
 
 pub slice_bounds-slot-end : goal.slice_bounds-slot-end
 slice_bounds-slot-end g c =
-    let sz = size_is c.args.self.now.engine.now.set c.set.result.now c.cipher_words.result c.set.ensures c.cipher_words.ensures.value in
-    let room : c.loop-i.i * (c.cipher_words.result + 1) + (c.cipher_words.result + 1) ≤ length c.loop-i.reads =
-    slot_room c.loop-i.i (length c.args.calls.now) (c.cipher_words.result + 1) (wide (numbers_of c.args.self.now.engine.now.set) + 1) (length c.loop-i.reads) sz (c.loop-i.auto.reads ∙ c.requires.reads) (omega arith) in
+    let sz = size_is c.args.self.now.engine.now.set c.set.result.now c.cipher_words-size.result c.set.ensures c.cipher_words-size.ensures.value in
+    let room : c.loop-i.i * (c.cipher_words-size.result + 1) + (c.cipher_words-size.result + 1) ≤ length c.loop-i.reads =
+    slot_room c.loop-i.i (length c.args.calls.now) (c.cipher_words-size.result + 1) (wide (numbers_of c.args.self.now.engine.now.set) + 1) (length c.loop-i.reads) sz (c.loop-i.auto.reads ∙ c.requires.reads) (omega arith) in
     omega arith
