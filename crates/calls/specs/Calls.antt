@@ -4,7 +4,7 @@ use Rattle.faults.specs.declared.fault.Fault.{Fault}
 use Rattle.faults.specs.declared.fault.Layer.TheVariants.{Runner}
 use Rattle.faults.specs.Least.{or_else}
 use Rattle.set.specs.declared.numbers.Numbers.{Numbers}
-use Rattle.gate.specs.Lengths.{start_length, selectors_length, rows_length, gate_work}
+use Rattle.gate.specs.Lengths.{start_length, selectors_length, rows_length}
 use Rattle.registers.specs.declared.lists.Lists.{Lists}
 use Rattle.registers.specs.declared.op.Op.{Op}
 use Rattle.registers.specs.declared.op.Op as op
