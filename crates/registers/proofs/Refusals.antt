@@ -170,11 +170,12 @@ module _ (m : Numbers) (s : State) (z : ℕ) (new : List ℕ) where
         ]
       ])
 
-count_wrong : (count : ℕ) → (leb 1 count && leb count 64) ≡ false → ((1 ≤ count) × (count ≤ 64)) → ⊥
+-- R outside its limits
+pub count_wrong : (count : ℕ) → (leb 1 count && leb count 64) ≡ false → ((1 ≤ count) × (count ≤ 64)) → ⊥
 count_wrong count e h = elim (and_cases (leb 1 count) (leb count 64) e)
     [ inl a ↦ (let l = leb-false 1 count a in let k = h.0 in omega arith) | inr b ↦ (let l = leb-false count 64 b in let k = h.1 in omega arith) ]
 
-count_right : (count : ℕ) → (((1 ≤ count) × (count ≤ 64)) → ⊥) → (leb 1 count && leb count 64) ≡ true → ⊥
+pub count_right : (count : ℕ) → (((1 ≤ count) × (count ≤ 64)) → ⊥) → (leb 1 count && leb count 64) ≡ true → ⊥
 count_right count n e = let p = and_parts (leb 1 count) (leb count 64) e in n (leb-true 1 count p.0, leb-true count 64 p.1)
 
 pub new_least : (m : Numbers) (count have : ℕ) → Least (WrongNew m count have) (refuse_new m count have)
