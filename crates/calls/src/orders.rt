@@ -31,25 +31,22 @@ fn follow<K: Kernel + Drop, S: Sweep + Drop>(
 ) -> Ran
     ensures { ending (state_of file.new regs.new) result.orders result.stop ≡ orders_of (gates_by S.Sweep.defined K.Kernel.reads S.Sweep.count engine.now.set keys.entry.start.now keys.entry.selectors.now keys.entry.rows.now) (numbers_of engine.now.set) (S.Sweep.count engine.now.set.within) (handed_lists keys.entry.start.now keys.entry.selectors.now keys.entry.rows.now small.old work.old scratch.old) (state_of file.old regs.old) orders.now }
 {
-    let mut left = orders;
-    let mut ran = 0;
-    while let Some(([letter, x, y, z], rest)) = left.split_first_chunk::<4>() {
-        let Some(op) = order_of(*letter, *x, *y, *z) else {
+    for (i, order) in orders.chunks_exact(4).enumerate() {
+        let Some(op) = order_of(order[0], order[1], order[2], order[3]) else {
             return Ran {
-                orders: ran,
-                stop: Some(Fault::Order { order: ran as u64 }),
+                orders: i,
+                stop: Some(Fault::Order { order: i as u64 }),
             };
         };
         if let Err(fault) = act(engine, file, op, keys, regs, small, work, scratch) {
             return Ran {
-                orders: ran,
+                orders: i,
                 stop: Some(fault),
             };
         }
-        left = rest;
-        ran += 1;
     }
-    if !left.is_empty() {
+    let ran = orders.len() / 4;
+    if orders.len() % 4 != 0 {
         return Ran {
             orders: ran,
             stop: Some(Fault::Order { order: ran as u64 }),
