@@ -1,5 +1,5 @@
 -- The machine of plain bits answers each call as the file does, and goes on alike.
-use Rattle.std.proofs.Common.{◌≡◌, ℕ, zero, suc, ◌+◌, ◌*◌, ◌<◌, min, Bool, true, false, not, eqb, List, [], ◌∷◌, map, length, get_or, set, replicate, is_some, Some, None, Option, sym, refl, ap, ◌∙◌, inl, inr, add-zero, arith}
+use Rattle.std.proofs.Common.{◌≡◌, ℕ, zero, suc, ◌+◌, ◌*◌, ◌<◌, min, Bool, true, false, not, eqb, List, [], ◌∷◌, map, length, get_or, set, replicate, is_some, Some, None, Option, sym, refl, ap, ◌∙◌, inl, inr, arith}
 use Rattle.std.proofs.lemmas.List.{length-replicate, length-set, map-set}
 use Rattle.std.proofs.lemmas.Bool.{cases_lt, ne_eqb}
 use Rattle.faults.specs.declared.fault.Fault.{Fault}
@@ -16,13 +16,14 @@ use Rattle.registers.specs.declared.op.Op.{Op}
 use Rattle.registers.specs.declared.op.Op.TheVariants.{Gate, Invert, Copy, Clear}
 use Rattle.registers.specs.Registers.{wide, row_at, remainders, opposite}
 use Rattle.registers.specs.Marks.{State}
-use Rattle.registers.specs.Steps.{Gates, either, bad_memory, bad_length, bad_registers, gate_lists, fresh, written, done_place, refuse_place, next_place, refuse_read, named, used, done_op, refuse_op}
+use Rattle.registers.specs.Steps.{Gates, either, bad_list, bad_keys, bad_work, bad_memory, bad_length, bad_registers, gate_lists, fresh, written, done_place, refuse_place, next_place, refuse_read, named, used, done_op, refuse_op}
 use Rattle.registers.proofs.Accepted.{Ready, place_accepted, op_accepted, gate_accepted}
 use Rattle.registers.proofs.Memory.{row_fits, row_long, put_long}
+use Rattle.registers.proofs.Refusals.{no_more}
 use Rattle.registers.proofs.Opposite.{opposite_long, remainders_long}
 use Rattle.calls.specs.declared.call.Lent.{Lent}
 use Rattle.calls.specs.Plain.{Entries, the_bit, first_row, row7, row10, row11, row12, handed, plain_place, plain_read, plain_op, plain_call, plain_lists, entered, unless_refused, bits_place, bits_op}
-use Rattle.calls.specs.Calls.{lent_lists, refuse_by, bad_list, bad_keys, bad_work, refuse_orders}
+use Rattle.calls.specs.Calls.{lent_lists, refuse_by, refuse_orders}
 use Rattle.calls.specs.Gated.{OnGate, LongGate}
 use Rattle.calls.specs.Followed.{Tracks, next_op, PlainFollows}
 use Rattle.calls.proofs.Lowest.{row10_same, row11_same, row12_same}
@@ -84,15 +85,6 @@ module _ (m : Numbers) (s : State) (bits : Entries) (t : Tracks m s bits) where
       ∙ right_then (selectors_length m count) (selectors_length m count) (Length (i + 1) part) _ refl
       ∙ right_length (rows_length m) (rows_length m) (Length (i + 2) part) refl
 
-  -- no word more is no more
-  work_more : (part : Layer) (i : ℕ) (l : Lists)
-      → bad_work part i 0 m l ≡ or_else (row7 part i l.small (wide m)) (or_else (row7 part (i + 1) l.work (gate_work m)) (row7 part (i + 2) l.scratch m.degree))
-  work_more part i l =
-      let a : wide m + 0 ≡ wide m = add-zero (wide m) in
-      let b : gate_work m + 0 ≡ gate_work m = add-zero (gate_work m) in
-      let c : m.degree + 0 ≡ m.degree = add-zero m.degree in
-      cc
-
   -- key memory and register memory are right
   pub lent_lists_lem : (count : ℕ) (lent : Lent)
       → gate_lists m count (lent_lists m count lent) s
@@ -118,7 +110,7 @@ module _ (m : Numbers) (s : State) (bits : Entries) (t : Tracks m s bits) where
   order_lists count lent =
       ap (λ (a : Option Fault). or_else a (or_else (bad_list Runner 4 (length s.words) (s.count * wide m)) (bad_work Runner 5 0 m (lent_lists m count lent)))) (keys_fit Runner 1 count lent)
       ∙ right_then (length s.words) (s.count * wide m) (Length 4 Runner) _ t.whole
-      ∙ work_more Runner 5 (lent_lists m count lent)
+      ∙ no_more m Runner 5 (lent_lists m count lent)
       ∙ sym (rows3 (row7 Runner 5 (handed m lent).small (wide m)) (row7 Runner 6 (handed m lent).work (gate_work m)) (row7 Runner 7 (handed m lent).scratch m.degree))
 
   -- an order, where all lists are right

@@ -1,7 +1,7 @@
 -- Each refusal of a run is the least of the faults that are true of it.
-use Rattle.std.proofs.Common.{◌≡◌, ℕ, ◌+◌, ◌*◌, ◌%◌, ◌<◌, ◌≤◌, true, false, ◌&&◌, eqb, leb, ◌⊎◌, Some, None, Option, sym, refl, ap, ◌∙◌, subst, inl, inr, arith}
+use Rattle.std.proofs.Common.{◌≡◌, ℕ, ◌+◌, ◌*◌, ◌%◌, ◌<◌, ◌≤◌, ◌&&◌, eqb, leb, ◌⊎◌, Some, None, Option, sym, refl, ap, ◌∙◌, subst, inl, inr, arith}
 use native.Mathlib.Nat.{mul-mod_left}
-use Rattle.std.proofs.lemmas.Bool.{cases_eq, eqb-true, eqb-false, ne_eqb, leb-true, leb-false, and_parts, and_cases}
+use Rattle.std.proofs.lemmas.Bool.{cases_eq, eqb-true, eqb-false, ne_eqb}
 use Rattle.faults.specs.declared.fault.Fault.{Fault}
 use Rattle.faults.specs.declared.fault.Fault.TheVariants.{Length, Register}
 use Rattle.faults.specs.declared.fault.Layer.TheVariants.{File, Runs}
@@ -12,17 +12,10 @@ use Rattle.gate.specs.Lengths.{start_length, selectors_length, rows_length, gate
 use Rattle.gate.proofs.Answers.{right_then}
 use Rattle.registers.specs.declared.lists.Lists.{Lists}
 use Rattle.registers.specs.Registers.{wide}
+use Rattle.registers.proofs.Refusals.{count_wrong, count_right}
 use Rattle.registers.specs.Steps.{refuse_new}
-use Rattle.calls.specs.Calls.{bad_list}
+use Rattle.registers.specs.Steps.{bad_list}
 use Rattle.calls.specs.Runs.{run_lists, refuse_run, WrongRun, LeastRun}
-
--- R outside its limits
-count_wrong : (R : ℕ) → (leb 1 R && leb R 64) ≡ false → ((1 ≤ R) × (R ≤ 64)) → ⊥
-count_wrong R e h = elim (and_cases (leb 1 R) (leb R 64) e)
-    [ inl a ↦ (let l = leb-false 1 R a in let k = h.0 in omega arith) | inr b ↦ (let l = leb-false R 64 b in let k = h.1 in omega arith) ]
-
-count_right : (R : ℕ) → (((1 ≤ R) × (R ≤ 64)) → ⊥) → (leb 1 R && leb R 64) ≡ true → ⊥
-count_right R n e = let p = and_parts (leb 1 R) (leb R 64) e in n (leb-true 1 R p.0, leb-true R 64 p.1)
 
 -- one list before the next
 list_row : (i j have want : ℕ) (W : Fault → Type 0) (rest : Option Fault) → i < j → Rows (Length j Runs) W rest

@@ -1,5 +1,6 @@
 -- A list of orders, order by order.
-use Rattle.std.proofs.Common.{◌≡◌, ℕ, ◌+◌, ◌<◌, ◌≤◌, List, [], ◌∷◌, length, get_or, take, drop, Some, None, Option, sym, refl, ap, ◌∙◌, arith}
+use Rattle.std.proofs.Common.{◌≡◌, ℕ, ◌+◌, ◌*◌, ◌<◌, ◌≤◌, List, [], ◌∷◌, length, get_or, take, drop, Some, None, Option, sym, refl, ap, ◌∙◌, arith}
+use Rattle.std.proofs.lemmas.List.{length-drop, drop-drop}
 use Rattle.faults.specs.declared.fault.Fault.{Fault}
 use Rattle.faults.specs.declared.fault.Fault.TheVariants.{Order}
 use Rattle.set.specs.declared.numbers.Numbers.{Numbers}
@@ -20,9 +21,17 @@ cut4 (l ∷ (x ∷ [])) h = absurd (omega arith)
 cut4 (l ∷ (x ∷ (y ∷ []))) h = absurd (omega arith)
 cut4 (l ∷ (x ∷ (y ∷ (z ∷ rest)))) h = refl
 
-pub four : (xs chunk rest : List ℕ) → chunk ≡ take 4 xs → rest ≡ drop 4 xs → length rest + 4 ≡ length xs
+four : (xs chunk rest : List ℕ) → chunk ≡ take 4 xs → rest ≡ drop 4 xs → length rest + 4 ≡ length xs
     → xs ≡ get_or chunk 0 0 ∷ (get_or chunk 1 0 ∷ (get_or chunk 2 0 ∷ (get_or chunk 3 0 ∷ rest)))
 four xs chunk rest a b h = let e = cut4 xs (omega arith) in cc
+
+-- the bytes of the order numbered k, and what comes after them
+pub order_at : (xs chunk : List ℕ) (k : ℕ) → chunk ≡ take 4 (drop (k * 4) xs) → (k + 1) * 4 ≤ length xs
+    → drop (k * 4) xs ≡ get_or chunk 0 0 ∷ (get_or chunk 1 0 ∷ (get_or chunk 2 0 ∷ (get_or chunk 3 0 ∷ drop ((k + 1) * 4) xs)))
+order_at xs chunk k a h =
+    four (drop (k * 4) xs) chunk (drop ((k + 1) * 4) xs) a
+    (sym (drop-drop 4 (k * 4) xs ∙ ap (λ (n : ℕ). drop n xs) (omega arith)))
+    (omega (arith, length-drop (k * 4) xs, length-drop ((k + 1) * 4) xs))
 
 parsed_four : (l x y z : ℕ) (rest : List ℕ) → parsed (l ∷ x ∷ y ∷ z ∷ rest) ≡ order_of l x y z ∷ parsed rest
 unfolding parsed

@@ -1,6 +1,5 @@
 -- What the answer of one call tells of its refusal.
 use Rattle.std.proofs.Common.{◌≡◌, ℕ, ◌+◌, List, ◌∷◌, length, Some, None, Ok, Err, Option, sym, refl, ap, ◌∙◌, arith}
-use Rattle.std.specs.Option.{ok_or}
 use Rattle.faults.specs.declared.fault.Fault.{Fault}
 use Rattle.faults.specs.Least.{told}
 use Rattle.set.specs.declared.numbers.Numbers.{Numbers}
@@ -19,15 +18,6 @@ ok_none (Some f) u e = absurd (let z : ◌≡◌ {A = ℕ} 0 1 = cc in omega ari
 pub err_some : (r : Option Fault) (f : Fault) → Err f ≡ told r → r ≡ Some f
 err_some None f e = absurd (let z : ◌≡◌ {A = ℕ} 0 1 = cc in omega arith)
 err_some (Some g) f e = cc
-
--- what `ok_or` tells of an option
-pub none_told : {A : Type 0} (o : Option A) (f g : Fault) → Err f ≡ ok_or o g → (o ≡ None) × (f ≡ g)
-none_told None f g e = (refl, cc)
-none_told (Some a) f g e = absurd (let z : ◌≡◌ {A = ℕ} 0 1 = cc in omega arith)
-
-pub some_told : {A : Type 0} (o : Option A) (a : A) (g : Fault) → Ok a ≡ ok_or o g → Some a ≡ o
-some_told None a g e = absurd (let z : ◌≡◌ {A = ℕ} 0 1 = cc in omega arith)
-some_told (Some b) a g e = cc
 
 -- lists as long as they were
 pub lists_stay : (start selectors rows small work scratch small' work' scratch' : List ℕ)

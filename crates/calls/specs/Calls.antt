@@ -1,18 +1,16 @@
 -- The calls of a run on a register file: what each answers, reads and leaves.
-use Rattle.std.specs.Prelude.{ℕ, ◌+◌, ◌*◌, min, List, [], ◌∷◌, ◌++◌, length, replicate, Some, None, Option, ◌==◌}
+use Rattle.std.specs.Prelude.{ℕ, ◌+◌, ◌*◌, min, List, [], ◌∷◌, ◌++◌, length, replicate, Some, None, Option}
 use Rattle.faults.specs.declared.fault.Fault.{Fault}
-use Rattle.faults.specs.declared.fault.Fault.TheVariants.{Length}
-use Rattle.faults.specs.declared.fault.Layer.{Layer}
 use Rattle.faults.specs.declared.fault.Layer.TheVariants.{Runner}
-use Rattle.faults.specs.Least.{or_else, unless}
+use Rattle.faults.specs.Least.{or_else}
 use Rattle.set.specs.declared.numbers.Numbers.{Numbers}
-use Rattle.gate.specs.Lengths.{start_length, selectors_length, rows_length, gate_work}
+use Rattle.gate.specs.Lengths.{start_length, selectors_length, rows_length}
 use Rattle.registers.specs.declared.lists.Lists.{Lists}
 use Rattle.registers.specs.declared.op.Op.{Op}
 use Rattle.registers.specs.declared.op.Op as op
 use Rattle.registers.specs.Registers.{wide}
 use Rattle.registers.specs.Marks.{State}
-use Rattle.registers.specs.Steps.{Gates, either, refuse_place, next_place, refuse_read, words_read, refuse_op, refuse_gate, done_op}
+use Rattle.registers.specs.Steps.{Gates, either, bad_list, bad_keys, bad_work, lists_of, refuse_place, next_place, refuse_read, words_read, refuse_op, refuse_gate, done_op}
 use Rattle.calls.specs.declared.call.Lent.{Lent}
 use Rattle.calls.specs.declared.call.Call.{Call}
 use Rattle.calls.specs.declared.call.Call.TheVariants.{Place, Read, Gate, Invert, Copy, Clear, Orders}
@@ -57,8 +55,7 @@ lent_lists m count lent =
 
 -- the lengths of lists that are handed
 abbrev pub handed_lists : List ℕ → List ℕ → List ℕ → List ℕ → List ℕ → List ℕ → Lists
-handed_lists start selectors rows small work scratch =
-    record { start = length start; selectors = length selectors; rows = length rows; small = length small; work = length work; scratch = length scratch }
+handed_lists start selectors rows small work scratch = lists_of start selectors rows small work scratch
 
 -- an operation that is handed these lists
 abbrev pub refuse_by : Numbers → ℕ → Lists → State → Op → Option Fault
@@ -66,22 +63,6 @@ refuse_by m count lists s (op.Op.Gate l x y z) = refuse_gate m count lists s x y
 refuse_by m count lists s (op.Op.Invert x z) = refuse_op m s (op.Op.Invert x z)
 refuse_by m count lists s (op.Op.Copy x z) = refuse_op m s (op.Op.Copy x z)
 refuse_by m count lists s (op.Op.Clear z) = refuse_op m s (op.Op.Clear z)
-
--- list i of a part's call has not the right length
-abbrev pub bad_list : Layer → ℕ → ℕ → ℕ → Option Fault
-bad_list part i have want = unless (have == want) (Length i part)
-
--- key memory, as three lists from i on
-abbrev pub bad_keys : Layer → ℕ → Numbers → ℕ → Lists → Option Fault
-bad_keys part i m count l =
-    or_else (bad_list part i l.start (start_length m))
-    (or_else (bad_list part (i + 1) l.selectors (selectors_length m count)) (bad_list part (i + 2) l.rows (rows_length m)))
-
--- small memory, work memory and scratch, as three lists from i on, each with so many words more than a gate takes
-abbrev pub bad_work : Layer → ℕ → ℕ → Numbers → Lists → Option Fault
-bad_work part i more m l =
-    or_else (bad_list part i l.small (wide m + more))
-    (or_else (bad_list part (i + 1) l.work (gate_work m + more)) (bad_list part (i + 2) l.scratch (m.degree + more)))
 
 -- the lists of the runner: orders of any length, key memory, register memory, work memory
 abbrev pub refuse_orders : Numbers → ℕ → Lists → State → Option Fault

@@ -10,12 +10,12 @@ use Rattle.registers.specs.declared.file.File.{File}
 use Rattle.registers.specs.declared.lists.Lists.{Lists}
 use Rattle.registers.specs.Registers.{wide}
 use Rattle.registers.specs.Marks.{State, filled}
-use Rattle.registers.specs.Steps.{Gates, fresh}
+use Rattle.registers.specs.Steps.{Gates, fresh, bad_list, bad_keys, bad_work}
 use Rattle.calls.specs.declared.answer.Answer.{Answer}
 use Rattle.calls.specs.Answers.{verdict}
 use Rattle.calls.specs.Orders.{parsed, ordered}
 use Rattle.calls.specs.Plain.{Entries, handed, plain_place, plain_read, plain_op, plain_call, plain_lists, entered, unless_refused, bits_place}
-use Rattle.calls.specs.Calls.{Asked, placing, reading, doing, ordering, bad_list, bad_keys, bad_work, stopped, answer, next, slot}
+use Rattle.calls.specs.Calls.{Asked, placing, reading, doing, ordering, stopped, answer, next, slot}
 
 -- what a run gives: an answer and a slot of read words for each call, the marks and the register words at its end
 pub record Outcome : Type 0 where

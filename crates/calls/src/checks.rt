@@ -1,48 +1,19 @@
-ghost use Rattle.std.specs.Prelude.{◌≡◌, ◌+◌, ◌*◌, ◌<◌, ◌≤◌, ◌&&◌, ◌==◌, nat_le};
-ghost use Rattle.faults.specs.declared.fault.Fault.TheVariants.{Register};
+ghost use Rattle.std.specs.Prelude.{◌≡◌, ◌+◌, ◌*◌, ◌<◌, ◌==◌};
 ghost use Rattle.faults.specs.declared.fault.Layer.TheVariants.{Runs};
-ghost use Rattle.faults.specs.Least.{told, unless};
+ghost use Rattle.faults.specs.Least.{told};
 ghost use Rattle.registers.specs.Marks.{state_of};
 ghost use Rattle.registers.specs.Registers.{numbers_of, wide};
-ghost use Rattle.calls.specs.Calls.{bad_list, bad_keys, bad_work, refuse_orders};
+ghost use Rattle.registers.specs.Steps.{bad_list};
+ghost use Rattle.calls.specs.Calls.{refuse_orders};
 ghost use Rattle.calls.specs.Runs.{run_lists, refuse_run};
 
 use faults::fault::{Fault, Layer};
 use faults::lengths::check_length;
-use gate::sizes::gate_words;
 use registers::file::File;
+use registers::lengths::{check_count, check_keys, check_memory, check_work};
 use registers::lists::Lists;
-use registers::sizes::{memory_of, selector_words};
 use set::checked::Set;
 use sweeps::sweep::Sweep;
-
-// Key memory, as three lists.
-pub fn check_keys<S: Sweep>(set: &Set, part: Layer, list: u32, lists: Lists) -> Result<(), Fault>
-    requires { list ≤ 16 }
-    ensures { result ≡ told (bad_keys part list (numbers_of set.now) (S.Sweep.count set.now.within) lists) }
-{
-    check_length(part, list, lists.start, set.key_words())?;
-    check_length(part, list + 1, lists.selectors, selector_words::<S>(set))?;
-    check_length(part, list + 2, lists.rows, set.row_words())
-}
-
-// Small memory, work memory and scratch, as three lists.
-pub fn check_work(set: &Set, part: Layer, list: u32, more: usize, lists: Lists) -> Result<(), Fault>
-    requires few { list ≤ 16 }
-    requires more { more ≤ 1 }
-    ensures { result ≡ told (bad_work part list more (numbers_of set.now) lists) }
-{
-    check_length(part, list, lists.small, set.cipher_words() + more)?;
-    check_length(part, list + 1, lists.work, gate_words(set) + more)?;
-    check_length(part, list + 2, lists.scratch, set.degree() + more)
-}
-
-// Register memory of so many registers.
-pub fn check_memory(set: &Set, part: Layer, list: u32, count: u32, len: usize) -> Result<(), Fault>
-    ensures { result ≡ told (bad_list part list len (count * wide (numbers_of set.now))) }
-{
-    check_length(part, list, len, memory_of(set, count))
-}
 
 // The lists of the runner.
 pub fn check_orders<S: Sweep>(
@@ -75,16 +46,6 @@ fn check_reads(set: &Set, calls: usize, reads: usize) -> Result<(), Fault>
             list: 2,
             part: Layer::Runs,
         });
-    }
-    Ok(())
-}
-
-// R is from 1 to 64.
-fn check_count(count: u32) -> Result<(), Fault>
-    ensures { result ≡ told (unless (nat_le 1 count && nat_le count 64) (Register count)) }
-{
-    if count < 1 || count > 64 {
-        return Err(Fault::Register { register: count });
     }
     Ok(())
 }

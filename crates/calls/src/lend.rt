@@ -36,6 +36,7 @@ fn at_most(asked: u32, have: usize) -> usize
     (asked as usize).min(have)
 }
 
+// Kept: small, work and scratch with a clause each, as fields of Loaded they would need `&mut self` and a promise by each method that engine and keys stay.
 impl<K: Kernel + Drop, S: Sweep + Drop> Loaded<'_, K, S> {
     // An operation that is lent so much work memory.
     pub fn act(

@@ -1,5 +1,4 @@
 ghost use Rattle.std.specs.Prelude.{◌≡◌, ◌+◌, ◌*◌, length, replicate};
-ghost use Rattle.faults.specs.Least.{refusal};
 ghost use Rattle.registers.specs.Marks.{State, state_of};
 ghost use Rattle.registers.specs.Registers.{numbers_of};
 ghost use Rattle.registers.specs.Steps.{gates_by, either, done_op};
@@ -19,7 +18,7 @@ use registers::lists::Lists;
 use sweeps::sweep::Sweep;
 use words::guard::Wiped;
 
-// Orders one after the other, up to the first that is refused; `ran` counts them.
+// Orders one after the other, up to the first that is refused.
 fn follow<K: Kernel + Drop, S: Sweep + Drop>(
     engine: &Engine<K, S>,
     file: &mut File,
@@ -29,22 +28,34 @@ fn follow<K: Kernel + Drop, S: Sweep + Drop>(
     small: &mut [u16],
     work: &mut [u32],
     scratch: &mut [u32],
-    ran: &mut usize,
-) -> Result<(), Fault>
-    requires { ran.old ≡ 0 }
-    ensures { ending (state_of file.new regs.new) ran.new (refusal result) ≡ orders_of (gates_by S.Sweep.defined K.Kernel.reads S.Sweep.count engine.now.set keys.entry.start.now keys.entry.selectors.now keys.entry.rows.now) (numbers_of engine.now.set) (S.Sweep.count engine.now.set.within) (handed_lists keys.entry.start.now keys.entry.selectors.now keys.entry.rows.now small.old work.old scratch.old) (state_of file.old regs.old) orders.now }
+) -> Ran
+    ensures { ending (state_of file.new regs.new) result.orders result.stop ≡ orders_of (gates_by S.Sweep.defined K.Kernel.reads S.Sweep.count engine.now.set keys.entry.start.now keys.entry.selectors.now keys.entry.rows.now) (numbers_of engine.now.set) (S.Sweep.count engine.now.set.within) (handed_lists keys.entry.start.now keys.entry.selectors.now keys.entry.rows.now small.old work.old scratch.old) (state_of file.old regs.old) orders.now }
 {
-    let mut left = orders;
-    while let Some(([letter, x, y, z], rest)) = left.split_first_chunk::<4>() {
-        let op = order_of(*letter, *x, *y, *z).ok_or(Fault::Order { order: *ran as u64 })?;
-        act(engine, file, op, keys, regs, small, work, scratch)?;
-        left = rest;
-        *ran += 1;
+    for (i, order) in orders.chunks_exact(4).enumerate() {
+        let Some(op) = order_of(order[0], order[1], order[2], order[3]) else {
+            return Ran {
+                orders: i,
+                stop: Some(Fault::Order { order: i as u64 }),
+            };
+        };
+        if let Err(fault) = act(engine, file, op, keys, regs, small, work, scratch) {
+            return Ran {
+                orders: i,
+                stop: Some(fault),
+            };
+        }
     }
-    if !left.is_empty() {
-        return Err(Fault::Order { order: *ran as u64 });
+    let ran = orders.len() / 4;
+    if orders.len() % 4 != 0 {
+        return Ran {
+            orders: ran,
+            stop: Some(Fault::Order { order: ran as u64 }),
+        };
     }
-    Ok(())
+    Ran {
+        orders: ran,
+        stop: None,
+    }
 }
 
 // Runs a list of orders, of four bytes each, up to its end or the first that is refused, and tells how many ran.
@@ -81,8 +92,7 @@ pub fn run_orders<K: Kernel + Drop, S: Sweep + Drop>(
             stop: Some(fault),
         };
     }
-    let mut ran = 0;
-    let end = follow(
+    follow(
         engine,
         file,
         orders,
@@ -91,10 +101,5 @@ pub fn run_orders<K: Kernel + Drop, S: Sweep + Drop>(
         little.words,
         room.words,
         spare.words,
-        &mut ran,
-    );
-    Ran {
-        orders: ran,
-        stop: end.err(),
-    }
+    )
 }

@@ -16,6 +16,7 @@ fn part(right: bool, pair: u32) -> Result<(), Fault>
 }
 
 // The parts of an image have their lengths.
+// Kept: `count ≤ 2 ^ 14` at each that is told a count, for a type of one number and its bound is no plainer.
 pub fn check_parts(image: &[u8], set: &Set, count: usize) -> Result<(), Fault>
     requires { count ≤ 2 ^ 14 }
     ensures { refusal result ≡ parts_broken set.now.within.numbers count image.now }

@@ -1,3 +1,4 @@
 pub mod Causes
 pub mod Least
+pub mod Lengths
 pub mod Texts

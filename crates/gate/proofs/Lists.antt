@@ -1,45 +1,11 @@
 -- The first list of another length.
-use Rattle.std.proofs.Common.{◌≡◌, ℕ, zero, suc, ◌+◌, ◌<◌, Bool, true, false, cond, not, eqb, ◌⊎◌, List, [], ◌∷◌, length, get_or, Some, None, Option, sym, refl, ap, ◌∙◌, inl, inr, arith}
-use Rattle.std.specs.List.{position, position_from}
-use Rattle.std.proofs.lemmas.Iterator.Adapters.{position_from-zero}
-use Rattle.std.specs.Option.{option_map}
-use Rattle.std.proofs.lemmas.Bool.{eqb-true}
+use Rattle.std.proofs.Common.{◌≡◌, ℕ, zero, suc, ◌+◌, ◌<◌, eqb, ◌⊎◌, List, [], ◌∷◌, length, get_or, refl, ap, ◌∙◌, inl, inr, arith}
 use Rattle.faults.specs.declared.fault.Fault.{Fault}
 use Rattle.faults.specs.declared.fault.Fault.TheVariants.{Length}
 use Rattle.faults.specs.declared.fault.Layer.TheVariants.{Gate}
-use Rattle.faults.specs.Least.{Least, or_else, unless}
+use Rattle.faults.specs.Least.{Least, unless}
 use Rattle.faults.proofs.Least.{least_or, least_same, least_length, no_later_by}
-use Rattle.gate.specs.Lengths.{first_wrong, AllRight, WrongLengths, LengthsLeast}
-
--- a list of another length than the right one
-abbrev pub differs : ℕ × ℕ → Bool
-differs l = not (eqb l.0 l.1)
-
--- the first of them is the first wrong list
-pub wrong_at : (s : ℕ) (ls : List (ℕ × ℕ)) → first_wrong s ls ≡ option_map (λ i. Length i Gate) (position_from differs s ls)
-wrong_at s [] = refl
-wrong_at s (l ∷ ls) =
-    elim (eqb l.0 l.1) as (λ b. or_else (unless b (Length s Gate)) (first_wrong (s + 1) ls) ≡ option_map (λ i. Length i Gate) (cond (not b) (Some s) (position_from differs (s + 1) ls))) [
-      | true ↦ wrong_at (s + 1) ls
-      | false ↦ refl
-    ]
-
--- none of them
-right_first : (s : ℕ) (l : ℕ × ℕ) (ls : List (ℕ × ℕ)) (b : Bool) → eqb l.0 l.1 ≡ b → (position_from differs (s + 1) ls ≡ None → AllRight ls)
-    → cond (not b) (Some s) (position_from differs (s + 1) ls) ≡ None → AllRight (l ∷ ls)
-right_first s l ls true h rest e = (eqb-true l.0 l.1 h, rest e)
-right_first s l ls false h rest e = cc
-
-pub all_right : (s : ℕ) (ls : List (ℕ × ℕ)) → position_from differs s ls ≡ None → AllRight ls
-all_right s [] e = tt
-all_right s (l ∷ ls) e = right_first s l ls (eqb l.0 l.1) refl (all_right (s + 1) ls) e
-
--- the answer, told by their first
-pub wrong_by : (ls : List (ℕ × ℕ)) (o : Option ℕ) → o ≡ position differs ls → first_wrong 0 ls ≡ option_map (λ i. Length i Gate) o
-wrong_by ls o e = wrong_at 0 ls ∙ ap (option_map (λ i. Length i Gate)) (sym (e ∙ position_from-zero differs ls))
-
-pub right_by : (ls : List (ℕ × ℕ)) → None ≡ position differs ls → AllRight ls
-right_by ls e = all_right 0 ls (sym (e ∙ position_from-zero differs ls))
+use Rattle.gate.specs.Lengths.{first_wrong, WrongLengths, LengthsLeast}
 
 -- the same with the lists counted from s on
 abbrev From : ℕ → List (ℕ × ℕ) → Fault → Type 0

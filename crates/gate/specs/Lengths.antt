@@ -1,21 +1,20 @@
 -- The lists of each call, and their right lengths.
-use Rattle.std.specs.Prelude.{◌≡◌, ℕ, ◌+◌, ◌*◌, ◌<◌, cond, List, [], ◌∷◌, length, replicate, is_ok, Some, None, Ok, Err, Option, Result, ◌==◌, ◌≢◌, slice_index_or}
-use Rattle.std.specs.List.{AllByRecursion}
+use Rattle.std.specs.Prelude.{◌≡◌, ℕ, ◌+◌, ◌*◌, ◌<◌, cond, List, [], ◌∷◌, length, replicate, is_ok, Some, None, Ok, Err, Option, Result, ◌≢◌, slice_index_or}
 use Rattle.faults.specs.declared.fault.Fault.{Fault}
 use Rattle.faults.specs.declared.fault.Fault.TheVariants.{Length}
 use Rattle.faults.specs.declared.fault.Layer.TheVariants.{Gate}
-use Rattle.faults.specs.Least.{Least, or_else, unless}
+use Rattle.faults.specs.Least.{Least}
+use Rattle.faults.specs.Lengths.{wrong_from, RightLengths}
 use Rattle.set.specs.declared.numbers.Numbers.{Numbers}
 use Rattle.gate.specs.declared.stages.Declined.{Declined}
 
 -- the first list, counted from i on, that has another length than the call's; each list is told by its length and the right one
 abbrev pub first_wrong : ℕ → List (ℕ × ℕ) → Option Fault
-first_wrong i [] = None
-first_wrong i (l ∷ ls) = or_else (unless (l.0 == l.1) (Length i Gate)) (first_wrong (i + 1) ls)
+first_wrong i ls = wrong_from Gate i ls
 
 -- every list has its right length
 abbrev pub AllRight : List (ℕ × ℕ) → Type 0
-AllRight ls = AllByRecursion (λ l. l.0 ≡ l.1) ls
+AllRight ls = RightLengths ls
 
 -- what a stage answers: what it made, or why it refuses, and what it was handed
 abbrev pub staged : {X Y : Type 0} → Option Fault → X → Y → Result X (Declined Y)

@@ -1,4 +1,4 @@
-ghost use Rattle.std.specs.Prelude.{◌≡◌, ℕ, ◌+◌, ◌*◌, ◌^◌, ◌<◌, ◌≤◌, max, not, length, position, IsOk, IfSome, ◌==◌};
+ghost use Rattle.std.specs.Prelude.{◌≡◌, ℕ, ◌+◌, ◌*◌, ◌^◌, ◌<◌, ◌≤◌, max, length, IsOk};
 ghost use Rattle.faults.specs.Least.{refusal};
 ghost use Rattle.gate.specs.Gates.{gate_refused, GateFits, reach_of, gate_at_refused, GateAtFits, invert_at_refused, InvertAtFits};
 ghost use Rattle.gate.specs.Lengths.{words_of, sample_of, start_length, selectors_length, rows_length, sweep_work, gate_work, first_wrong, AllRight, start_refused, sweep_refused, StartFits, SweepFits};
@@ -6,29 +6,16 @@ ghost use Rattle.gate.specs.Lengths.{words_of, sample_of, start_length, selector
 use crate::keys::Keys;
 use crate::sizes::gate_words;
 use faults::fault::{Fault, Layer};
+use faults::lengths;
 use set::checked::Set;
 
-// The first list that has not its right length; each list is told by its length and the right one.
-fn first_wrong(lists: &[(usize, usize)]) -> Option<usize>
-    ensures first { result ≡ position (λ l. not (l.0 == l.1)) lists.now }
-    ensures within { IfSome result (λ i. i < length lists.now) }
-{
-    lists.iter().position(|list| list.0 != list.1)
-}
-
-// Refuses the first list that has not its right length.
+// Refuses the first list that has not its right length; each list is told by its length and the right one.
 pub fn check_lengths(lists: &[(usize, usize)]) -> Result<(), Fault>
     requires { length lists.now ≤ 16 }
     ensures answer { refusal result ≡ first_wrong 0 lists.now }
     ensures fits { IsOk result → AllRight lists.now }
 {
-    match first_wrong(lists) {
-        Some(list) => Err(Fault::Length {
-            list: list as u32,
-            part: Layer::Gate,
-        }),
-        None => Ok(()),
-    }
+    lengths::check_lengths(Layer::Gate, lists)
 }
 
 // The lists of a start.

@@ -4,6 +4,7 @@ use faults::fault::Fault;
 
 // What a stage hands to the next one, which uses it up: how many words it wrote.
 // The words lie in memory that is lent at each call.
+// Kept: six types of one number, as the project wants plain values that are moved, so that no stage is left out or done twice.
 
 // Two ciphertexts combined; spent by `start`.
 pub struct Combined {

@@ -1,23 +1,18 @@
 ghost use Rattle.std.specs.Prelude.{◌≡◌, ℕ, ◌+◌, ◌-◌, ◌*◌, ◌/◌, ◌%◌, ◌^◌, ◌<◌, ◌≤◌, cond, length, take, drop, replicate, pos, ◌+ℤ◌, ◌*ℤ◌, slice_index, slice_index_or, slice_set, unsigned_abs};
 ghost use Rattle.algebra.specs.Ints.{Cong, sum_z};
 ghost use Rattle.algebra.specs.Words.{word_of};
-ghost use Rattle.kernels.specs.Polynomials.{reduced};
 ghost use Rattle.gate.specs.Stages.{switch_words, split_by, rows_of, all_rows_of, Added};
 
 use crate::parts::part_of;
+use kernels::remainders;
 use words::gadget::Gadget;
-use words::modulus::Modulus;
 
 // A digit as a word of 32 bits.
 fn wrapped(digit: i64) -> u32
     requires { unsigned_abs digit < 2 ^ 31 }
     ensures { result ≡ word_of (2 ^ 32) digit }
 {
-    if digit < 0 {
-        (digit + 0x1_0000_0000) as u32
-    } else {
-        digit as u32
-    }
+    digit.rem_euclid(0x1_0000_0000) as u32
 }
 
 // A row times a digit is added, modulo 2^32.
@@ -83,16 +78,6 @@ fn begin(last: usize, word: u32, out: &mut [u32])
     out[last] = word;
 }
 
-// Each word becomes its remainder.
-// Kept: kernels has this loop for words of a ring alone; a public function for the one line would be no plainer.
-fn settle(modulus: Modulus, out: &mut [u32])
-    ensures { out.new ≡ reduced (length out.old) modulus.value out.old }
-{
-    for word in out.iter_mut() {
-        *word %= modulus.value;
-    }
-}
-
 // N + 1 words switched to n + 1: from n zeros and the last word, digits times rows are added, and rounded nowhere.
 pub fn switch_words(
     gadget: &Gadget,
@@ -110,9 +95,10 @@ pub fn switch_words(
     requires few { last < 1024 }
     ensures { out.new ≡ switch_words degree last gadget.now.modulus.value (2 ^ gadget.now.width) gadget.now.digits rows.now words.now }
 {
+    // Kept: room for the most digits, of which `places` are used, since nothing below the programs takes from the heap.
     let mut digits = [0i64; 31];
     let places = gadget.digits as usize;
     begin(last, words[degree], out);
     add_words(gadget, &words[0..degree], &mut digits[0..places], rows, out);
-    settle(gadget.modulus, out);
+    remainders::divide(out, gadget.modulus);
 }

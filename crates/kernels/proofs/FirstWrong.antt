@@ -1,11 +1,9 @@
 -- The first list of another length is the least fault.
-use Rattle.std.proofs.Common.{◌≡◌, ℕ, zero, suc, ◌+◌, ◌<◌, eqb, Bool, true, false, cond, not, ◌⊎◌, Some, Option, List, [], ◌∷◌, length, get_or, refl, sym, ap, ◌∙◌, inl, inr, arith}
-use Rattle.std.specs.List.{position_from}
-use Rattle.std.specs.Option.{option_map}
+use Rattle.std.proofs.Common.{◌≡◌, ℕ, zero, suc, ◌+◌, ◌<◌, eqb, ◌⊎◌, List, [], ◌∷◌, length, get_or, refl, ap, ◌∙◌, inl, inr, arith}
 use Rattle.faults.specs.declared.fault.Fault.{Fault}
 use Rattle.faults.specs.declared.fault.Fault.TheVariants.{Length}
 use Rattle.faults.specs.declared.fault.Layer.TheVariants.{Kernel}
-use Rattle.faults.specs.Least.{Least, or_else, unless, told}
+use Rattle.faults.specs.Least.{Least, unless}
 use Rattle.faults.proofs.Least.{least_or, least_same, least_length, no_later_by}
 use Rattle.kernels.specs.Lengths.{wrong_length, WrongLengths, LengthsLeast}
 

@@ -5,6 +5,7 @@ ghost use Rattle.kernels.specs.Polynomials.{Below, InRing, reduced, poly_of};
 use crate::lengths;
 use faults::fault::Fault;
 use rings::ring::Ring;
+use words::modulus::Modulus;
 
 // Whether all words lie below the modulus: one pass, with no branch.
 fn all_below(words: &[u32], modulus: u32) -> bool
@@ -18,12 +19,11 @@ fn all_below(words: &[u32], modulus: u32) -> bool
 }
 
 // Each word becomes its remainder.
-fn divide(words: &mut [u32], modulus: u32)
-    requires { 0 < modulus }
-    ensures { words.new ≡ reduced (length words.old) modulus words.old }
+pub fn divide(words: &mut [u32], modulus: Modulus)
+    ensures { words.new ≡ reduced (length words.old) modulus.value words.old }
 {
     for word in words.iter_mut() {
-        *word %= modulus;
+        *word %= modulus.value;
     }
 }
 
@@ -34,7 +34,7 @@ pub fn reduce(ring: &Ring, words: &mut [u32])
 {
     let modulus = ring.modulus;
     if !all_below(words, modulus) {
-        divide(words, modulus);
+        divide(words, Modulus { value: modulus });
     }
 }
 

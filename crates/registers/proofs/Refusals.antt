@@ -1,8 +1,9 @@
 -- Each refusal is the least of the faults that are true of the call.
-use Rattle.std.proofs.Common.{◌≡◌, ℕ, ◌+◌, ◌*◌, ◌<◌, ◌≤◌, true, false, ◌&&◌, leb, ◌⊎◌, List, [], ◌∷◌, length, Some, None, Option, sym, refl, ap, ◌∙◌, subst, inl, inr, arith}
+use Rattle.std.proofs.Common.{◌≡◌, ℕ, ◌+◌, ◌*◌, ◌<◌, ◌≤◌, true, false, ◌&&◌, leb, ◌⊎◌, List, [], ◌∷◌, length, Some, None, Option, sym, refl, ap, ◌∙◌, subst, inl, inr, add-zero, arith}
 use Rattle.std.proofs.lemmas.Bool.{leb-true, leb-false, and_parts, and_cases}
 use Rattle.faults.specs.declared.fault.Fault.{Fault}
 use Rattle.faults.specs.declared.fault.Fault.TheVariants.{Length, Register, Empty, CipherWord}
+use Rattle.faults.specs.declared.fault.Layer.{Layer}
 use Rattle.faults.specs.declared.fault.Layer.TheVariants.{File}
 use Rattle.faults.specs.Least.{Least, NoLater, or_else}
 use Rattle.faults.proofs.Least.{least_or, least_unless, least_length, no_later_by}
@@ -12,7 +13,7 @@ use Rattle.registers.specs.Registers.{wide, first_high}
 use Rattle.registers.specs.Marks.{State}
 use Rattle.gate.specs.Lengths.{start_length, selectors_length, rows_length, gate_work}
 use Rattle.registers.specs.declared.lists.Lists.{Lists}
-use Rattle.registers.specs.Steps.{outsides, fault_at, bad_length, bad_memory, bad_registers, named, used, refuse_new, refuse_place, refuse_read, refuse_op, refuse_gate}
+use Rattle.registers.specs.Steps.{outsides, fault_at, bad_list, bad_keys, bad_work, bad_length, bad_memory, bad_registers, gate_lists, named, used, refuse_new, refuse_place, refuse_read, refuse_op, refuse_gate}
 use Rattle.registers.specs.Wrong.{WrongLength, WrongRegister, WrongEmpty, WrongWord, WrongNew, WrongPlace, WrongRead, WrongOp, WrongGate}
 use Rattle.registers.proofs.Smallest.{register_least, empty_least, word_least}
 
@@ -78,6 +79,28 @@ one_list i have want W a h =
 or_assoc : (a b c : Option Fault) → or_else (or_else a b) c ≡ or_else a (or_else b c)
 or_assoc None b c = refl
 or_assoc (Some f) b c = refl
+
+-- no word more is no more
+pub no_more : (m : Numbers) (part : Layer) (i : ℕ) (l : Lists)
+    → bad_work part i 0 m l
+    ≡ or_else (bad_list part i l.small (wide m)) (or_else (bad_list part (i + 1) l.work (gate_work m)) (bad_list part (i + 2) l.scratch m.degree))
+no_more m part i l =
+    let a : wide m + 0 ≡ wide m = add-zero (wide m) in
+    let b : gate_work m + 0 ≡ gate_work m = add-zero (gate_work m) in
+    let c : m.degree + 0 ≡ m.degree = add-zero m.degree in
+    cc
+
+-- the lists of a gate, as those of key memory, of registers and of work
+pub lists_joined : (m : Numbers) (count : ℕ) (l : Lists) (s : State)
+    → or_else (bad_keys File 0 m count l) (or_else (bad_memory 3 m s) (bad_work File 4 0 m l)) ≡ gate_lists m count l s
+lists_joined m count l s =
+    let r = or_else (bad_memory 3 m s) (bad_work File 4 0 m l) in
+    let a0 = bad_length 0 l.start (start_length m) in
+    let a1 = bad_length 1 l.selectors (selectors_length m count) in
+    let a2 = bad_length 2 l.rows (rows_length m) in
+    or_assoc a0 (or_else a1 a2) r
+    ∙ ap (or_else a0) (or_assoc a1 a2 r)
+    ∙ ap (λ (v : Option Fault). or_else a0 (or_else a1 (or_else a2 (or_else (bad_memory 3 m s) v)))) (no_more m File 4 l)
 
 pub gate_least : (m : Numbers) (count : ℕ) (l : Lists) (s : State) (x y z : ℕ) → Least (WrongGate m count l s x y z) (refuse_gate m count l s x y z)
 gate_least m count l s x y z =
@@ -147,11 +170,12 @@ module _ (m : Numbers) (s : State) (z : ℕ) (new : List ℕ) where
         ]
       ])
 
-count_wrong : (count : ℕ) → (leb 1 count && leb count 64) ≡ false → ((1 ≤ count) × (count ≤ 64)) → ⊥
+-- R outside its limits
+pub count_wrong : (count : ℕ) → (leb 1 count && leb count 64) ≡ false → ((1 ≤ count) × (count ≤ 64)) → ⊥
 count_wrong count e h = elim (and_cases (leb 1 count) (leb count 64) e)
     [ inl a ↦ (let l = leb-false 1 count a in let k = h.0 in omega arith) | inr b ↦ (let l = leb-false count 64 b in let k = h.1 in omega arith) ]
 
-count_right : (count : ℕ) → (((1 ≤ count) × (count ≤ 64)) → ⊥) → (leb 1 count && leb count 64) ≡ true → ⊥
+pub count_right : (count : ℕ) → (((1 ≤ count) × (count ≤ 64)) → ⊥) → (leb 1 count && leb count 64) ≡ true → ⊥
 count_right count n e = let p = and_parts (leb 1 count) (leb count 64) e in n (leb-true 1 count p.0, leb-true count 64 p.1)
 
 pub new_least : (m : Numbers) (count have : ℕ) → Least (WrongNew m count have) (refuse_new m count have)

@@ -1,7 +1,8 @@
 -- One step of each call: why it is refused, what it leaves, and what is read.
-use Rattle.std.specs.Prelude.{ℕ, ◌*◌, Bool, true, false, cond, ◌&&◌, List, [], ◌∷◌, length, set, replicate, Some, None, Option, ◌==◌, nat_le, nat_lt, slice_index_or, slice_set}
+use Rattle.std.specs.Prelude.{ℕ, ◌+◌, ◌*◌, Bool, true, false, cond, ◌&&◌, List, [], ◌∷◌, length, set, replicate, Some, None, Option, ◌==◌, nat_le, nat_lt, slice_index_or, slice_set}
 use Rattle.faults.specs.declared.fault.Fault.{Fault}
 use Rattle.faults.specs.declared.fault.Fault.TheVariants.{Length, Register, Empty, CipherWord}
+use Rattle.faults.specs.declared.fault.Layer.{Layer}
 use Rattle.faults.specs.declared.fault.Layer.TheVariants.{File}
 use Rattle.faults.specs.Least.{or_else, unless}
 use Rattle.rings.specs.declared.ring.Ring.{Ring}
@@ -49,6 +50,22 @@ vacants marks (x ∷ xs) = lesser (vacant marks x) (vacants marks xs)
 abbrev pub fault_at : (ℕ → Fault) → Option ℕ → Option Fault
 fault_at f None = None
 fault_at f (Some x) = Some (f x)
+
+-- list i of a part's call has not the right length
+abbrev pub bad_list : Layer → ℕ → ℕ → ℕ → Option Fault
+bad_list part i have want = unless (have == want) (Length i part)
+
+-- key memory, as three lists from i on
+abbrev pub bad_keys : Layer → ℕ → Numbers → ℕ → Lists → Option Fault
+bad_keys part i m count l =
+    or_else (bad_list part i l.start (start_length m))
+    (or_else (bad_list part (i + 1) l.selectors (selectors_length m count)) (bad_list part (i + 2) l.rows (rows_length m)))
+
+-- small memory, work memory and scratch, as three lists from i on, each with so many words more than a gate takes
+abbrev pub bad_work : Layer → ℕ → ℕ → Numbers → Lists → Option Fault
+bad_work part i more m l =
+    or_else (bad_list part i l.small (wide m + more))
+    (or_else (bad_list part (i + 1) l.work (gate_work m + more)) (bad_list part (i + 2) l.scratch (m.degree + more)))
 
 -- a list that has not the right length
 abbrev pub bad_length : ℕ → ℕ → ℕ → Option Fault

@@ -2,21 +2,15 @@ ghost use Rattle.std.specs.Prelude.{◌≡◌, ◌*◌, length, replicate, IfOk}
 ghost use Rattle.faults.specs.Least.{refusal, told};
 ghost use Rattle.registers.specs.Marks.{state_of};
 ghost use Rattle.registers.specs.Registers.{numbers_of, wide};
-ghost use Rattle.registers.specs.Steps.{lists_of, either, fresh, refuse_new, refuse_place, next_place, refuse_read, read_out, refuse_op, next_invert, next_copy, next_clear, gates_by, refuse_gate, next_gate};
-ghost use Rattle.registers.specs.Wrong.{LeastNew, LeastPlace, LeastRead, LeastOp, LeastGate};
+ghost use Rattle.registers.specs.Steps.{either, fresh, refuse_new, refuse_place, next_place, refuse_read, read_out, refuse_op, next_invert, next_copy, next_clear};
+ghost use Rattle.registers.specs.Wrong.{LeastNew, LeastPlace, LeastRead, LeastOp};
 
 use crate::checks::{check_new, check_op, check_place, check_read};
 use crate::file::File;
-use crate::gates::gate_on;
 use crate::named::{copy_at, invert_at, put_at, take_at};
 use crate::op::Op;
-use engine::engine::Engine;
 use faults::fault::Fault;
-use gate::keys::Keys;
-use gate::letter::Letter;
-use kernels::kernel::Kernel;
 use set::checked::Set;
-use sweeps::sweep::Sweep;
 
 impl File {
     // A file of R empty registers, all of whose words become 0.
@@ -87,44 +81,5 @@ impl File {
         invert_at(set, self.registers(), regs, x, z);
         self.mark(z, true);
         Ok(())
-    }
-
-    // Writes the gate of x and y to z, and marks z. Any of the three may be the same register.
-    // Kept: small, work and scratch one by one, as callers lend them and a fault numbers them.
-    pub fn gate<K: Kernel + Drop, S: Sweep + Drop>(
-        &mut self,
-        engine: &Engine<K, S>,
-        letter: Letter,
-        x: u32,
-        y: u32,
-        z: u32,
-        keys: Keys<'_>,
-        regs: &mut [u16],
-        small: &mut [u16],
-        work: &mut [u32],
-        scratch: &mut [u32],
-    ) -> Result<(), Fault>
-        ensures answer { result ≡ told (refuse_gate (numbers_of engine.now.set) (S.Sweep.count engine.now.set.within) (lists_of keys.entry.start.now keys.entry.selectors.now keys.entry.rows.now small.old work.old scratch.old) (state_of self.old regs.old) x y z) }
-        ensures state { state_of self.new regs.new ≡ next_gate (gates_by S.Sweep.defined K.Kernel.reads S.Sweep.count engine.now.set keys.entry.start.now keys.entry.selectors.now keys.entry.rows.now) (numbers_of engine.now.set) (S.Sweep.count engine.now.set.within) (lists_of keys.entry.start.now keys.entry.selectors.now keys.entry.rows.now small.old work.old scratch.old) (state_of self.old regs.old) letter x y z }
-        ensures small { small.new ≡ replicate (length small.old) 0 }
-        ensures work { work.new ≡ replicate (length work.old) 0 }
-        ensures scratch { scratch.new ≡ replicate (length scratch.old) 0 }
-        ensures least { LeastGate (numbers_of engine.now.set) (S.Sweep.count engine.now.set.within) (lists_of keys.entry.start.now keys.entry.selectors.now keys.entry.rows.now small.old work.old scratch.old) (state_of self.old regs.old) x y z }
-    {
-        gate_on(
-            engine.kernel(),
-            engine.sweep(),
-            engine.set(),
-            self,
-            letter,
-            x,
-            y,
-            z,
-            keys,
-            regs,
-            small,
-            work,
-            scratch,
-        )
     }
 }

@@ -7,13 +7,13 @@ ghost use Rattle.registers.specs.Steps.{outsides, vacants, bad_length, bad_memor
 ghost use Rattle.registers.specs.Wrong.{LeastNew, LeastPlace, LeastRead, LeastOp, LeastGate};
 
 use crate::file::File;
+use crate::lengths::{check_count, check_keys, check_memory, check_work};
 use crate::lists::Lists;
 use crate::op::Op;
 use crate::rows::first_high;
-use crate::sizes::{memory_of, selector_words, small};
+use crate::sizes::{memory_of, small};
 use faults::fault::{Fault, Layer};
 use faults::lengths::check_length;
-use gate::sizes::gate_words;
 use set::checked::Set;
 use sweeps::sweep::Sweep;
 
@@ -36,15 +36,10 @@ fn empty(file: &File, uses: &[u32]) -> Option<u32>
 }
 
 // Register memory has its length, as the list of this number.
-fn check_memory(list: u32, set: &Set, file: &File, regs: &[u16]) -> Result<(), Fault>
+fn check_regs(list: u32, set: &Set, file: &File, regs: &[u16]) -> Result<(), Fault>
     ensures { result ≡ told (bad_memory list (numbers_of set.now) (state_of file.now regs.now)) }
 {
-    check_length(
-        Layer::File,
-        list,
-        regs.len(),
-        memory_of(set, file.registers()),
-    )
+    check_memory(set, Layer::File, list, file.registers(), regs.len())
 }
 
 // The registers that a call names are below R.
@@ -93,16 +88,13 @@ fn check_words(set: &Set, words: &[u16]) -> Result<(), Fault>
 }
 
 // The lists of a gate have their lengths.
+#[tactic(auto, using(crate::proofs::Refusals::lists_joined))]
 fn check_lists<S: Sweep>(set: &Set, file: &File, lists: Lists, regs: &[u16]) -> Result<(), Fault>
     ensures { result ≡ told (gate_lists (numbers_of set.now) (S.Sweep.count set.now.within) lists (state_of file.now regs.now)) }
 {
-    check_length(Layer::File, 0, lists.start, set.key_words())?;
-    check_length(Layer::File, 1, lists.selectors, selector_words::<S>(set))?;
-    check_length(Layer::File, 2, lists.rows, set.row_words())?;
-    check_memory(3, set, file, regs)?;
-    check_length(Layer::File, 4, lists.small, set.cipher_words())?;
-    check_length(Layer::File, 5, lists.work, gate_words(set))?;
-    check_length(Layer::File, 6, lists.scratch, set.degree())
+    check_keys::<S>(set, Layer::File, 0, lists)?;
+    check_regs(3, set, file, regs)?;
+    check_work(set, Layer::File, 4, 0, lists)
 }
 
 // Each check below tells the least of the faults that are true of what the call was handed.
@@ -114,11 +106,7 @@ pub fn check_new(set: &Set, count: u32, len: usize) -> Result<(), Fault>
     ensures least { LeastNew (numbers_of set.now) count len }
 {
     check_length(Layer::File, 0, len, memory_of(set, count))?;
-    if 1 <= count && count <= 64 {
-        Ok(())
-    } else {
-        Err(Fault::Register { register: count })
-    }
+    check_count(count)
 }
 
 // Words can be placed.
@@ -128,7 +116,7 @@ pub fn check_place(set: &Set, file: &File, z: u32, words: &[u16], regs: &[u16]) 
     ensures least { LeastPlace (numbers_of set.now) (state_of file.now regs.now) z words.now }
 {
     check_length(Layer::File, 0, words.len(), set.cipher_words())?;
-    check_memory(1, set, file, regs)?;
+    check_regs(1, set, file, regs)?;
     check_named(file, &[z])?;
     check_words(set, words)
 }
@@ -140,7 +128,7 @@ pub fn check_read(set: &Set, file: &File, x: u32, len: usize, regs: &[u16]) -> R
     ensures least { LeastRead (numbers_of set.now) (state_of file.now regs.now) x len }
 {
     check_length(Layer::File, 0, len, set.cipher_words())?;
-    check_memory(1, set, file, regs)?;
+    check_regs(1, set, file, regs)?;
     check_registers(file, &[x], &[x])
 }
 
@@ -150,7 +138,7 @@ pub fn check_op(set: &Set, file: &File, op: Op, regs: &[u16]) -> Result<(), Faul
     ensures answer { result ≡ told (refuse_op (numbers_of set.now) (state_of file.now regs.now) op) }
     ensures least { LeastOp (numbers_of set.now) (state_of file.now regs.now) op }
 {
-    check_memory(0, set, file, regs)?;
+    check_regs(0, set, file, regs)?;
     match op {
         Op::Gate { letter: _, x, y, z } => check_registers(file, &[x, y, z], &[x, y]),
         Op::Invert { x, z } | Op::Copy { x, z } => check_registers(file, &[x, z], &[x]),

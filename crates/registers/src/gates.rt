@@ -9,6 +9,7 @@ ghost use Rattle.registers.specs.Wrong.{LeastGate};
 use crate::checks::check_gate;
 use crate::file::File;
 use crate::lists::Lists;
+use engine::engine::Engine;
 use faults::fault::Fault;
 use gate::in_place::gate_at;
 use gate::keys::Keys;
@@ -52,57 +53,58 @@ fn gate_row<K: Kernel, S: Sweep>(
     );
 }
 
-// The gate of registers of a file.
-// Kept: the same one by one, since an engine or a struct of them would be taken apart here at once.
-pub(crate) fn gate_on<K: Kernel, S: Sweep>(
-    kernel: &K,
-    sweep: &S,
-    set: &Set,
-    file: &mut File,
-    letter: Letter,
-    x: u32,
-    y: u32,
-    z: u32,
-    keys: Keys<'_>,
-    regs: &mut [u16],
-    small: &mut [u16],
-    work: &mut [u32],
-    scratch: &mut [u32],
-) -> Result<(), Fault>
-    ensures answer { result ≡ told (refuse_gate (numbers_of set.now) (S.Sweep.count set.now.within) (lists_of keys.entry.start.now keys.entry.selectors.now keys.entry.rows.now small.old work.old scratch.old) (state_of file.old regs.old) x y z) }
-    ensures state { state_of file.new regs.new ≡ next_gate (gates_by S.Sweep.defined K.Kernel.reads S.Sweep.count set.now keys.entry.start.now keys.entry.selectors.now keys.entry.rows.now) (numbers_of set.now) (S.Sweep.count set.now.within) (lists_of keys.entry.start.now keys.entry.selectors.now keys.entry.rows.now small.old work.old scratch.old) (state_of file.old regs.old) letter x y z }
-    ensures small { small.new ≡ replicate (length small.old) 0 }
-    ensures work { work.new ≡ replicate (length work.old) 0 }
-    ensures scratch { scratch.new ≡ replicate (length scratch.old) 0 }
-    ensures least { LeastGate (numbers_of set.now) (S.Sweep.count set.now.within) (lists_of keys.entry.start.now keys.entry.selectors.now keys.entry.rows.now small.old work.old scratch.old) (state_of file.old regs.old) x y z }
-{
-    let little = Wiped { words: small };
-    let room = Wiped { words: work };
-    let spare = Wiped { words: scratch };
-    let lists = Lists {
-        start: keys.start.len(),
-        selectors: keys.selectors.len(),
-        rows: keys.rows.len(),
-        small: little.words.len(),
-        work: room.words.len(),
-        scratch: spare.words.len(),
-    };
-    check_gate::<S>(set, file, lists, x, y, z, regs)?;
-    gate_row(
-        kernel,
-        sweep,
-        set,
-        file.registers(),
-        letter,
-        x,
-        y,
-        z,
-        keys,
-        regs,
-        little.words,
-        room.words,
-        spare.words,
-    );
-    file.mark(z, true);
-    Ok(())
+impl File {
+    // Writes the gate of x and y to z, and marks z. Any of the three may be the same register.
+    // Kept: small, work and scratch one by one, as callers lend them and a fault numbers them.
+    pub fn gate<K: Kernel + Drop, S: Sweep + Drop>(
+        &mut self,
+        engine: &Engine<K, S>,
+        letter: Letter,
+        x: u32,
+        y: u32,
+        z: u32,
+        keys: Keys<'_>,
+        regs: &mut [u16],
+        small: &mut [u16],
+        work: &mut [u32],
+        scratch: &mut [u32],
+    ) -> Result<(), Fault>
+        ensures answer { result ≡ told (refuse_gate (numbers_of engine.now.set) (S.Sweep.count engine.now.set.within) (lists_of keys.entry.start.now keys.entry.selectors.now keys.entry.rows.now small.old work.old scratch.old) (state_of self.old regs.old) x y z) }
+        ensures state { state_of self.new regs.new ≡ next_gate (gates_by S.Sweep.defined K.Kernel.reads S.Sweep.count engine.now.set keys.entry.start.now keys.entry.selectors.now keys.entry.rows.now) (numbers_of engine.now.set) (S.Sweep.count engine.now.set.within) (lists_of keys.entry.start.now keys.entry.selectors.now keys.entry.rows.now small.old work.old scratch.old) (state_of self.old regs.old) letter x y z }
+        ensures small { small.new ≡ replicate (length small.old) 0 }
+        ensures work { work.new ≡ replicate (length work.old) 0 }
+        ensures scratch { scratch.new ≡ replicate (length scratch.old) 0 }
+        ensures least { LeastGate (numbers_of engine.now.set) (S.Sweep.count engine.now.set.within) (lists_of keys.entry.start.now keys.entry.selectors.now keys.entry.rows.now small.old work.old scratch.old) (state_of self.old regs.old) x y z }
+    {
+        let little = Wiped { words: small };
+        let room = Wiped { words: work };
+        let spare = Wiped { words: scratch };
+        let lists = Lists {
+            start: keys.start.len(),
+            selectors: keys.selectors.len(),
+            rows: keys.rows.len(),
+            small: little.words.len(),
+            work: room.words.len(),
+            scratch: spare.words.len(),
+        };
+        let set = engine.set();
+        check_gate::<S>(set, self, lists, x, y, z, regs)?;
+        gate_row(
+            engine.kernel(),
+            engine.sweep(),
+            set,
+            self.registers(),
+            letter,
+            x,
+            y,
+            z,
+            keys,
+            regs,
+            little.words,
+            room.words,
+            spare.words,
+        );
+        self.mark(z, true);
+        Ok(())
+    }
 }

@@ -5,6 +5,7 @@ pub mod calls;
 mod checks;
 pub mod file;
 mod gates;
+pub mod lengths;
 pub mod lists;
 mod named;
 pub mod op;

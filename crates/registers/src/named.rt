@@ -1,8 +1,9 @@
 ghost use Rattle.std.specs.Prelude.{◌≡◌, ◌+◌, ◌*◌, ◌<◌, ◌≤◌, length};
 ghost use Rattle.registers.specs.Registers.{numbers_of, wide, row_at, put_row, remainders, opposite};
 
-use crate::rows::{reduce, turn};
+use crate::rows::reduce;
 use crate::sizes::small;
+use gate::in_place;
 use set::checked::Set;
 
 // The place of the first word of the register x, of so many.
@@ -56,17 +57,11 @@ pub fn copy_at(set: &Set, count: u32, regs: &mut [u16], x: u32, z: u32)
 }
 
 // Writes the opposite bit of the register x to z.
-// Kept: like copy_at but for its last call; one function for both would take that call with its law, which is no plainer.
 pub fn invert_at(set: &Set, count: u32, regs: &mut [u16], x: u32, z: u32)
     requires whole { length regs.old ≡ count * wide (numbers_of set.now) }
     requires from { x < count }
     requires to { z < count }
     ensures { regs.new ≡ put_row (numbers_of set.now) z regs.old (opposite (numbers_of set.now) (row_at (wide (numbers_of set.now)) x regs.old)) }
 {
-    let w = set.cipher_words();
-    let at = place_of(set, count, z);
-    let from = place_of(set, count, x);
-    regs.copy_within(from..from + w, at);
-    let row = &mut regs[at..at + w];
-    turn(small(set), row);
+    let _ = in_place::invert_at(set, x, z, regs);
 }

@@ -12,7 +12,7 @@ fn log_of(degree: u32) -> Option<usize>
     ensures power { IfSome result (λ k. degree ≡ 2 ^ k) }
     ensures range { IfSome result (λ k. (2 ≤ k) × (k ≤ 10)) }
 {
-    // Kept: `(2..=10).find(|log| degree == 1 << log)` left `returns-clause-same` open.
+    // Kept: the table of the definition; `(2..=10).find(|log| degree == 1 << log)` left `returns-clause-same` open.
     match degree {
         4 => Some(2),
         8 => Some(3),

@@ -13,4 +13,5 @@ mod products;
 mod rotation;
 pub mod single;
 pub mod sweep;
+pub mod turn;
 mod walk;

@@ -8,11 +8,13 @@ ghost use Rattle.sweeps.specs.Meaning.{turns};
 ghost use Rattle.sweeps.specs.Mixing.{is_minus, mixed, mixed_poly, MixedEach};
 
 use crate::external::Rows;
+use crate::turn::turn_of;
 use kernels::kernel::Kernel;
 use set::checked::Set;
 use words::modulus::Modulus;
 
 // The remainder of a number below 2Q.
+// Kept: transform has this for a ring; it asks for a bound, and what other crates call asks nothing, so each has its own.
 fn once(x: u32, modulus: u32) -> u32
     requires { x < 2 * modulus }
     ensures { result ≡ x % modulus }
@@ -96,15 +98,6 @@ fn mix_turned(acc: &mut [u32], sum: &[u32], turn: usize, modulus: Modulus)
     } else {
         mix_all(acc, sum, turn - n, Sign::Minus, modulus);
     }
-}
-
-// Y^e as a power of X below 2N. Exponents count modulo q.
-fn turn_of(set: &Set, e: u32) -> usize
-    ensures value { result ≡ turns (numbers_of set.now) e % (set.now.within.numbers.degree + set.now.within.numbers.degree) }
-    ensures below { result < set.now.within.numbers.degree + set.now.within.numbers.degree }
-{
-    let q = set.small();
-    (2 * set.degree() / q as usize) * (e % q) as usize
 }
 
 // (Y^e - 1) T is added to an accumulator.

@@ -9,7 +9,7 @@ ghost use Rattle.sweeps.specs.Layout.{numbers_of, work_long, key_end, polys_in};
 ghost use Rattle.sweeps.specs.Meaning.{sweep_refused};
 ghost use Rattle.sweeps.specs.Walks.{Starts, Goes, Ends};
 
-use crate::lengths;
+use crate::lengths::{Lengths, check_sweep};
 use faults::fault::Fault;
 use kernels::kernel::Kernel;
 use kernels::remainders;
@@ -38,7 +38,7 @@ pub(crate) trait Step {
 
     ghost run: { Numbers → List ℕ → List (List ℕ) → List ℕ → List ℕ };
 
-    // Kept: eight parameters, since a `&mut` in a struct makes its clauses longer, and kernel and set in one put a field before each `set.now`.
+    // Kept: eight parameters: three are `&mut`, which in a struct need longer clauses, and kernel and set in one, as Rows has them, put a field before each `set.now` here.
     fn step<K: Kernel>(
         kernel: &K,
         set: &Set,
@@ -108,15 +108,14 @@ pub(crate) fn sweep<S: Step, K: Kernel>(
 {
     let room = Wiped { words: work };
     let spare = Wiped { words: scratch };
-    lengths::check_sweep(
-        set,
-        count,
-        acc.len(),
-        exponents.len(),
-        keys.len(),
-        room.words.len(),
-        spare.words.len(),
-    )?;
+    let lengths = Lengths {
+        acc: acc.len(),
+        exponents: exponents.len(),
+        keys: keys.len(),
+        work: room.words.len(),
+        scratch: spare.words.len(),
+    };
+    check_sweep(set, count, &lengths)?;
     remainders::reduce(set.ring(), acc);
     steps::<S, K>(kernel, set, acc, exponents, keys, room.words, spare.words);
     Ok(())

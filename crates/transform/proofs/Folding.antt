@@ -15,7 +15,7 @@ use Rattle.kernels.specs.Polynomials.{poly_of, fused_in}
 use Rattle.kernels.specs.Reading.{folded}
 use Rattle.kernels.specs.Reduced.{reduced_poly, reduced_at}
 use Rattle.transform.specs.Order.{order}
-use Rattle.transform.specs.Pointwise.{fused_word, pointwise}
+use Rattle.transform.specs.Pointwise.{fused_word, fused_at, pointwise}
 use Rattle.transform.specs.Reads.{reads}
 use Rattle.transform.specs.Values.{sum, values}
 use Rattle.transform.specs.Reading.{values_at, values_poly, values_reads, reads_rest}
@@ -138,7 +138,7 @@ module _ (r : Ring) where
           (word c k l) (word a k l) (word b k l))))
 
   -- what is folded place by place is the form of c + a b, of the polynomials that the words read as
-  pub fold_reads : (c a b : List ℕ) → pointwise r.degree r.modulus c a b ≡ folded reads values r c a b
+  fold_reads : (c a b : List ℕ) → pointwise r.degree r.modulus c a b ≡ folded reads values r c a b
   fold_reads c a b =
       let own : (w : List ℕ) → poly_of r w ≡ values r (reads r w) =
       λ w. sym (values_reads r (poly_of r w) (reduced_poly r.degree Q w (some r))) ∙ ap (λ (i : List ℕ). values r i) (sym (reads_rest r w)) in
@@ -147,3 +147,7 @@ module _ (r : Ring) where
       ∙ (ap (λ (i : List ℕ). pointwise r.degree Q (values r (reads r c)) i (poly_of r b)) (own a)
       ∙ (ap (λ (i : List ℕ). pointwise r.degree Q (values r (reads r c)) (values r (reads r a)) i) (own b)
       ∙ sym (folds (reads r c) (reads r a) (reads r b)))))
+
+  -- the same at each of N places of c
+  pub fold_at : (c a b : List ℕ) → length c ≡ r.degree → fused_at r c a b ≡ folded reads values r c a b
+  fold_at c a b long = ap (λ (n : ℕ). pointwise n r.modulus c a b) long ∙ fold_reads c a b

@@ -69,25 +69,16 @@ fn all_reduced(modulus: u32, acc: &[u32], left: &[u32], right: &[u32]) -> bool
     !high
 }
 
-// c + a b at each place; nothing is divided where all words are reduced.
-fn fuse(ring: &Ring, acc: &mut [u32], left: &[u32], right: &[u32])
-    requires one { length left.now ≡ length acc.old }
-    requires other { length right.now ≡ length acc.old }
-    ensures { acc.new ≡ fused_at ring.now acc.old left.now right.now }
-{
-    if all_reduced(ring.modulus, acc, left, right) {
-        fuse_low(ring, acc, left, right);
-    } else {
-        fuse_any(ring, acc, left, right);
-    }
-}
-
-// The form of c + a b, of the polynomials that three forms read as.
+// The form of c + a b, of the polynomials that three forms read as; nothing is divided where all words are reduced.
 pub fn fold_forms(ring: &Ring, acc: &mut [u32], left: &[u32], right: &[u32])
     requires zero { length acc.old ≡ ring.now.degree }
     requires one { length left.now ≡ ring.now.degree }
     requires two { length right.now ≡ ring.now.degree }
     ensures { acc.new ≡ folded reads values ring.now acc.old left.now right.now }
 {
-    fuse(ring, acc, left, right);
+    if all_reduced(ring.modulus, acc, left, right) {
+        fuse_low(ring, acc, left, right);
+    } else {
+        fuse_any(ring, acc, left, right);
+    }
 }

@@ -1,6 +1,6 @@
 ghost use Rattle.std.specs.Prelude.{◌≡◌, ℕ, ◌+◌, ◌-◌, ◌*◌, ◌/◌, ◌%◌, ◌^◌, ◌<◌, ◌≤◌, length};
 ghost use Rattle.kernels.specs.Polynomials.{Below, InRing};
-ghost use Rattle.transform.specs.Stages.{plus, minus, Staged, staged, sums, diffs, Unstaged, unstaged, row, runs, unruns};
+ghost use Rattle.transform.specs.Stages.{plus, minus, Staged, staged, sums, diffs, Unstaged, unstaged, row, unruns};
 ghost use Rattle.transform.specs.Values.{values};
 
 use crate::field;
@@ -91,11 +91,11 @@ fn aback(ring: &Ring, s: usize, y: &[u32], x: &mut [u32])
     unstage(y, x, &roots);
 }
 
-// All stages, two a turn, between a and t.
-fn ascend(ring: &Ring, a: &mut [u32], t: &mut [u32])
+// A polynomial becomes its values: all stages, two a turn, between a and t.
+pub fn evaluate(ring: &Ring, a: &mut [u32], t: &mut [u32])
     requires from { InRing ring.now a.old }
     requires to { length t.old ≡ ring.now.degree }
-    ensures { a.new ≡ runs ring.now ring.now.log a.old }
+    ensures { a.new ≡ values ring.now a.old }
 {
     let log = ring.log;
     // Counted by hand: no plainer form, as k counts the stages that forth is told and no list is walked.
@@ -125,13 +125,4 @@ pub fn descend(ring: &Ring, a: &mut [u32], t: &mut [u32])
         aback(ring, 0, a, t);
         a.copy_from_slice(t);
     }
-}
-
-// A polynomial becomes its values.
-pub fn evaluate(ring: &Ring, a: &mut [u32], t: &mut [u32])
-    requires from { InRing ring.now a.old }
-    requires to { length t.old ≡ ring.now.degree }
-    ensures { a.new ≡ values ring.now a.old }
-{
-    ascend(ring, a, t);
 }

@@ -1,10 +1,10 @@
 ghost use Rattle.std.specs.Prelude.{◌^◌, ◌≤◌, length};
 
-use crate::lengths::{entry_words, expect_lengths};
+use crate::lengths::entry_words;
 use crate::modular::{plus, put_residues, residue, times};
 use crate::secrets::{check_sample, check_samples, check_secret, masked};
 use faults::fault::{Fault, Layer};
-use faults::lengths::check_length;
+use faults::lengths::{check_length, check_lengths};
 use gate::keys::Keys;
 use kernels::kernel::Kernel;
 use kernels::plain::Plain;
@@ -97,7 +97,7 @@ pub fn make_keys<S: Sweep>(
         (noise.words.len(), n),
         (product.words.len(), n),
     ];
-    expect_lengths(Layer::Secrets, &lengths)?;
+    check_lengths(Layer::Secrets, &lengths)?;
     check_secret(0, secrets.f, -1..=1, set.within.numbers.weight)?;
     check_secret(2, secrets.s, 0..=1, set.within.numbers.ones)?;
     check_inverse(set, secrets, noise.words, product.words)?;

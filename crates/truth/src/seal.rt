@@ -57,6 +57,7 @@ pub fn open(set: &Set, ciphertext: &[u16], secret: &[i32]) -> Result<bool, Fault
 }
 
 // Refuses the first word that is not below q.
+// Kept: registers has the same inside, for its layer and with its definition, and truth stands on no registers.
 fn check_ciphertext(ciphertext: &[u16], q: u32) -> Result<(), Fault>
     requires { length ciphertext.now ≤ 513 }
 {

@@ -16,6 +16,7 @@ use sweeps::sweep::Sweep;
 use transform::transform::Transform;
 
 // What ends the program early.
+// Kept: From by hand, four lines each, for thiserror would be one library more that is trusted.
 #[derive(Debug, Drop)]
 pub enum Failure {
     Refused(Fault),

@@ -26,6 +26,7 @@ impl fmt::Display for Failure {
 
 impl Error for Failure {}
 
+// Kept: From by hand, four lines each, for thiserror would be one library more that is trusted.
 impl From<Fault> for Failure {
     fn from(fault: Fault) -> Failure {
         Failure::Refused(fault)

@@ -13,23 +13,15 @@ use crate::lengths::check_start;
 use kernels::kernel::Kernel;
 use set::checked::Set;
 use sweeps::external::take;
+use sweeps::turn::turn_of;
 use words::guard::Wiped;
-
-// The power of X that Y^b is.
-fn exponent_of(set: &Set, word: u16) -> usize
-    ensures value { result ≡ turns set.now.within.numbers (word % set.now.within.numbers.small) }
-    ensures below { result < set.now.within.numbers.degree + set.now.within.numbers.degree }
-{
-    let q = set.small();
-    (set.degree() + set.degree()) / q as usize * (word as u32 % q) as usize
-}
 
 // Y^b times the test polynomial.
 fn begin(set: &Set, word: u16, acc: &mut [u32])
     requires { length acc.old ≡ set.now.within.numbers.degree }
     ensures { acc.new ≡ beginning set.now.within.numbers.degree set.now.within.numbers.modulus (turns set.now.within.numbers word) }
 {
-    begin_words(set.wide(), exponent_of(set, word), acc);
+    begin_words(set.wide(), turn_of(set, word as u32), acc);
 }
 
 // Taken by the start key.

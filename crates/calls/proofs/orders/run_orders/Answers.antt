@@ -1,6 +1,6 @@
 use Rattle.std.proofs.Common.{◌≡◌, ℕ, List, Some, None, Option, sym, ap, ◌∙◌, rules}
 use Rattle.faults.specs.declared.fault.Fault.{Fault}
-use Rattle.faults.specs.Least.{refusal, told}
+use Rattle.faults.specs.Least.{told}
 use Rattle.set.specs.declared.numbers.Numbers.{Numbers}
 use Rattle.set.specs.declared.checked.Set.{Set}
 use Rattle.registers.specs.declared.lists.Lists.{Lists}
@@ -44,9 +44,8 @@ returns g c =
     let r : None ≡ refuse_orders m count lists s =
     sym (ok_none (refuse_orders m count lists s) c.in_default.field-0
     (c.in_default.ensures ∙ ap (λ (v : Set). told (refuse_orders (numbers_of v) (g.S.Sweep.count v.within) lists s)) c.set.ensures)) in
-    let stop : c.err.result ≡ refusal c.follow-end.result = search rules in
     record {
-      end = ap (ending _ c.follow-end.new.ran) stop ∙ c.follow-end.ensures ∙ ap (λ (v : Option Fault). unless_refused v (ending s 0 v) (orders_of gates m count lists s xs)) r;
+      end = c.follow.ensures ∙ ap (λ (v : Option Fault). unless_refused v (ending s 0 v) (orders_of gates m count lists s xs)) r;
       calls = orders_calls gates m count lists xs s;
       small = search rules;
       work = search rules;

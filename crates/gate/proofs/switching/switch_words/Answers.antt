@@ -15,7 +15,7 @@ returns c =
     let front : length (take (c.args.degree - 0) (drop 0 c.args.words.now)) ≡ c.args.degree =
     length-take (c.args.degree - 0) c.args.words.now ∙ omega (arith, c.requires.words) in
     let old : length c.begin.new.out ≡ c.args.last + 1 = omega arith in
-    c.settle.ensures
+    c.divide.ensures
     ∙ ap (λ (l : ℕ). reduced l g.modulus.value c.add_words.new.out) long
     ∙ switched_from g N n xs rows c.begin.new.out c.add_words.new.out c.requires.whole c.requires.divides c.begin.ensures long
     (added_lengths g c.begin.new.out c.add_words.new.out (take (N - 0) (drop 0 xs)) rows N (n + 1) front old c.add_words.ensures)

@@ -1,12 +1,11 @@
-use Rattle.std.proofs.Common.{ℕ, ap, ◌∙◌}
-use Rattle.transform.specs.Pointwise.{pointwise}
-use Rattle.transform.proofs.Folding.{fold_reads}
+use Rattle.std.proofs.Common.{◌∙◌}
+use Rattle.transform.proofs.Folding.{fold_at}
 use Rattle.transform.proofs.pointwise.fold_forms.Goals as goal
 
-pub returns : goal.returns
-returns c =
-    let r = c.args.ring.now in
-    let acc = c.args.acc.now in
-    let left = c.args.left.now in
-    let right = c.args.right.now in
-    c.fuse.ensures ∙ (ap (λ (n : ℕ). pointwise n r.modulus acc left right) c.requires.zero ∙ fold_reads r acc left right)
+pub returns-then-all_reduced : goal.returns-then-all_reduced
+returns-then-all_reduced c =
+    c.fuse_low.ensures ∙ fold_at c.args.ring.now c.args.acc.now c.args.left.now c.args.right.now c.requires.zero
+
+pub returns-else-all_reduced : goal.returns-else-all_reduced
+returns-else-all_reduced c =
+    c.fuse_any.ensures ∙ fold_at c.args.ring.now c.args.acc.now c.args.left.now c.args.right.now c.requires.zero

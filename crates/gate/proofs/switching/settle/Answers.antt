@@ -1,6 +1,0 @@
-use Rattle.std.proofs.Common.{arith}
-use Rattle.kernels.specs.Reduced.{reduced_from}
-use Rattle.gate.proofs.switching.settle.Goals as goal
-
-pub returns : goal.returns
-returns c = reduced_from _ _ _ _ (omega arith) (λ k h. c.loop-word.invariant.0 k (omega arith))
