@@ -20,7 +20,7 @@ use sweeps::sweep::Sweep;
 use words::guard::Wiped;
 
 // Writes the gate of the registers x and y to z, of so many.
-// Kept: kernel, sweep, set and the three work memories one by one, as gate_at takes them.
+// Kept: six parameters one by one, as gate_at asks for them, and clauses over a struct of `&mut` would be longer.
 fn gate_row<K: Kernel, S: Sweep>(
     kernel: &K,
     sweep: &S,
@@ -55,7 +55,7 @@ fn gate_row<K: Kernel, S: Sweep>(
 
 impl File {
     // Writes the gate of x and y to z, and marks z. Any of the three may be the same register.
-    // Kept: small, work and scratch one by one, as callers lend them and a fault numbers them.
+    // Kept: small, work and scratch one by one, since a contract speaks of what a struct of `&mut` leaves only as `.exit.1.0.now`.
     pub fn gate<K: Kernel + Drop, S: Sweep + Drop>(
         &mut self,
         engine: &Engine<K, S>,

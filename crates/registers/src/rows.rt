@@ -3,6 +3,7 @@ ghost use Rattle.std.specs.List.{position_from};
 ghost use Rattle.registers.specs.Registers.{reduced};
 
 // Each word becomes its remainder.
+// Kept: kernels has this loop for words of 32 bits; a trait over both widths would be longer than either.
 pub fn reduce(q: u16, row: &mut [u16])
     requires { 0 < q }
     ensures { row.new ≡ reduced (length row.old) q row.old }
