@@ -69,7 +69,7 @@ bad_work part i more m l =
 
 -- a list that has not the right length
 abbrev pub bad_length : ℕ → ℕ → ℕ → Option Fault
-bad_length list have want = unless (have == want) (Length list File)
+bad_length list have want = bad_list File list have want
 
 -- register memory as the list of this number
 abbrev pub bad_memory : ℕ → Numbers → State → Option Fault
