@@ -38,6 +38,7 @@ fn follow<K: Kernel + Drop, S: Sweep + Drop>(
                 stop: Some(Fault::Order { order: i as u64 }),
             };
         };
+        // Kept: no `?`, since a refusal becomes a Ran, which tells how many orders ran.
         if let Err(fault) = act(engine, file, op, keys, regs, small, work, scratch) {
             return Ran {
                 orders: i,
@@ -86,6 +87,7 @@ pub fn run_orders<K: Kernel + Drop, S: Sweep + Drop>(
         work: room.words.len(),
         scratch: spare.words.len(),
     };
+    // Kept: no `?`, since a refusal becomes a Ran, which tells that none ran.
     if let Err(fault) = check_orders::<S>(engine.set(), file, lists, regs) {
         return Ran {
             orders: 0,

@@ -16,6 +16,7 @@ fn place_of(set: &Set, count: u32, x: u32) -> usize
 }
 
 // Copies words to the register z, of so many.
+// Kept: set, count and regs one by one here and below, since a contract speaks of what a struct of `&mut` leaves only as `.exit.1.0.now`.
 pub fn put_at(set: &Set, count: u32, new: &[u16], regs: &mut [u16], z: u32)
     requires whole { length regs.old ≡ count * wide (numbers_of set.now) }
     requires low { z < count }
