@@ -1,4 +1,4 @@
-ghost use Rattle.std.specs.Prelude.{◌^◌, ◌≤◌, length};
+ghost use Rattle.std.specs.Prelude.{◌≡◌, ◌+◌, ◌*◌, ◌^◌, ◌≤◌, length};
 
 use crate::lengths::entry_words;
 use crate::modular::{plus, put_residues, residue, times};
@@ -122,8 +122,7 @@ pub fn make_keys<S: Sweep>(
         noise.words,
         product.words,
     )?;
-    make_rows(set, secrets, row_samples, &mut keys.rows);
-    Ok(())
+    make_rows(set, secrets, row_samples, &mut keys.rows)
 }
 
 // The samples before a place, and those from it on.
@@ -141,6 +140,7 @@ fn check_inverse(
     words: &mut [u32],
     product: &mut [u32],
 ) -> Result<(), Fault> {
+    check_length(Layer::Secrets, 0, secrets.f.len(), words.len())?;
     check_length(Layer::Secrets, 8, product.len(), set.degree())?;
     put_residues(secrets.f, set.wide(), words);
     multiply(&set.ring, words, secrets.inverse, product)?;
@@ -190,6 +190,9 @@ fn make_selectors<S: Sweep>(
     message: &mut [u32],
 ) -> Result<(), Fault> {
     let size = set.key_words();
+    let words = set.selector_words(S::selectors(&set.within));
+    check_length(Layer::Secrets, 3, noises.len(), words)?;
+    check_length(Layer::Secrets, 5, selectors.len(), words)?;
     let keys = noises
         .chunks_exact(size)
         .zip(selectors.chunks_exact_mut(size));
@@ -219,6 +222,12 @@ fn make_key(
 ) -> Result<(), Fault> {
     let n = set.degree();
     let q = set.wide();
+    check_length(Layer::Secrets, 3, noises.len(), set.key_words())?;
+    check_length(Layer::Secrets, 4, key.len(), set.key_words())?;
+    check_length(Layer::Secrets, 7, noise.len(), n)?;
+    if let Held::Message(message) = held {
+        check_length(Layer::Secrets, 8, message.len(), n)?;
+    }
     let mut weight = set.within.numbers.dropped % q.get();
     for (noises, polynomial) in noises.chunks_exact(n).zip(key.chunks_exact_mut(n)) {
         put_residues(noises, q, noise);
@@ -235,14 +244,18 @@ fn make_key(
 }
 
 // Adds a number to a polynomial.
-fn add_constant(polynomial: &mut [u32], number: u32, modulus: Modulus) {
+fn add_constant(polynomial: &mut [u32], number: u32, modulus: Modulus)
+    requires { 1 ≤ length polynomial.old }
+{
     if let Some(word) = polynomial.first_mut() {
         *word = plus(*word, number, modulus);
     }
 }
 
 // Adds a multiple of one polynomial to another.
-fn add_scaled(polynomial: &mut [u32], other: &[u32], factor: u32, modulus: Modulus) {
+fn add_scaled(polynomial: &mut [u32], other: &[u32], factor: u32, modulus: Modulus)
+    requires { length other.now ≡ length polynomial.old }
+{
     for (word, other) in polynomial.iter_mut().zip(other) {
         *word = plus(*word, times(factor, *other, modulus), modulus);
     }
@@ -255,17 +268,31 @@ fn multiply(ring: &Ring, a: &[u32], b: &[u32], out: &mut [u32]) -> Result<(), Fa
 }
 
 // Makes the switch rows: for each entry of f as many as the set has places.
-fn make_rows(set: &Set, secrets: Secrets<'_>, samples: &[i32], rows: &mut [u32]) {
+fn make_rows(
+    set: &Set,
+    secrets: Secrets<'_>,
+    samples: &[i32],
+    rows: &mut [u32],
+) -> Result<(), Fault> {
+    check_length(Layer::Secrets, 0, secrets.f.len(), set.degree())?;
+    check_length(Layer::Secrets, 2, secrets.s.len(), set.dimension())?;
+    check_length(Layer::Secrets, 3, samples.len(), set.row_words())?;
+    check_length(Layer::Secrets, 6, rows.len(), set.row_words())?;
     let size = entry_words(set);
     let parts = samples.chunks_exact(size).zip(rows.chunks_exact_mut(size));
     for (entry, (samples, rows)) in secrets.f.iter().zip(parts) {
         let message = residue(*entry as i64, set.middle());
         make_entry_rows(set, message, secrets.s, samples, rows);
     }
+    Ok(())
 }
 
 // Makes the rows of one entry: row i is of the message times C^i.
-fn make_entry_rows(set: &Set, message: u32, s: &[i32], samples: &[i32], rows: &mut [u32]) {
+fn make_entry_rows(set: &Set, message: u32, s: &[i32], samples: &[i32], rows: &mut [u32])
+    requires secret { length s.now ≡ set.now.within.numbers.dimension }
+    requires samples { length samples.now ≡ set.now.within.numbers.places * (set.now.within.numbers.dimension + 1) }
+    requires rows { length rows.old ≡ set.now.within.numbers.places * (set.now.within.numbers.dimension + 1) }
+{
     let length = set.dimension() + 1;
     let modulus = set.middle();
     let mut power = message;
@@ -279,7 +306,10 @@ fn make_entry_rows(set: &Set, message: u32, s: &[i32], samples: &[i32], rows: &m
 }
 
 // One row: its random words, and the last word.
-fn make_row(message: u32, s: &[i32], modulus: Modulus, samples: &[i32], row: &mut [u32]) {
+fn make_row(message: u32, s: &[i32], modulus: Modulus, samples: &[i32], row: &mut [u32])
+    requires samples { length samples.now ≡ length s.now + 1 }
+    requires row { length row.old ≡ length s.now + 1 }
+{
     put_residues(samples, modulus, row);
     if let (Some((noise, randoms)), Some(last)) = (samples.split_last(), row.last_mut()) {
         *last = masked(message, *noise, randoms, s, modulus);

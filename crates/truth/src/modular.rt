@@ -1,3 +1,5 @@
+ghost use Rattle.std.specs.Prelude.{◌≡◌, length};
+
 use words::modulus::Modulus;
 
 // The sum of two words below the modulus.
@@ -32,14 +34,18 @@ pub fn residue(number: i64, modulus: Modulus) -> u32 {
 }
 
 // Puts the words of signed numbers.
-pub fn put_residues(numbers: &[i32], modulus: Modulus, words: &mut [u32]) {
+pub fn put_residues(numbers: &[i32], modulus: Modulus, words: &mut [u32])
+    requires { length words.old ≡ length numbers.now }
+{
     for (word, number) in words.iter_mut().zip(numbers) {
         *word = residue(*number as i64, modulus);
     }
 }
 
 // The sum of words times the entries of a secret.
-pub fn inner<T: Copy + Into<i64>>(words: &[T], secret: &[i32], modulus: Modulus) -> u32 {
+pub fn inner<T: Copy + Into<i64>>(words: &[T], secret: &[i32], modulus: Modulus) -> u32
+    requires { length words.now ≡ length secret.now }
+{
     words.iter().zip(secret).fold(0, |sum, (word, entry)| {
         let word = residue((*word).into(), modulus);
         let entry = residue(*entry as i64, modulus);

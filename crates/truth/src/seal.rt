@@ -25,10 +25,10 @@ pub fn seal(
     check_samples(1, randoms, 0..=q.get() as i32 - 1)?;
     check_sample(2, 0, noise, -bound..=bound)?;
     let message = if bit { q.get() / 4 } else { 0 };
+    out[n] = (masked(message, noise, randoms, secret, q) & 0xffff) as u16;
     for (word, random) in out.iter_mut().zip(randoms) {
         *word = (residue(*random as i64, q) & 0xffff) as u16;
     }
-    out[n] = (masked(message, noise, randoms, secret, q) & 0xffff) as u16;
     Ok(())
 }
 

@@ -1,3 +1,5 @@
+ghost use Rattle.std.specs.Prelude.{◌≡◌, length};
+
 use crate::modular::{inner, minus, plus, residue};
 use faults::fault::Fault;
 use std::ops::RangeInclusive;
@@ -53,7 +55,9 @@ pub fn check_samples(list: u32, samples: &[i32], bounds: RangeInclusive<i32>) ->
 }
 
 // The last word of a ciphertext: the message and the noise, less the sum of the random words times the secret.
-pub fn masked(message: u32, noise: i32, randoms: &[i32], secret: &[i32], modulus: Modulus) -> u32 {
+pub fn masked(message: u32, noise: i32, randoms: &[i32], secret: &[i32], modulus: Modulus) -> u32
+    requires { length randoms.now ≡ length secret.now }
+{
     let noisy = plus(message, residue(noise as i64, modulus), modulus);
     minus(noisy, inner(randoms, secret, modulus), modulus)
 }
