@@ -1,3 +1,5 @@
+ghost use Rattle.vectors.specs.Texts.{failure_text};
+
 use faults::fault::Fault;
 use std::alloc::{AllocError, Global};
 use std::error::Error;
@@ -14,6 +16,8 @@ pub enum Failure {
 }
 
 impl fmt::Display for Failure {
+    ghost output = { failure_text };
+
     fn fmt<W: fmt::Write>(&self, f: &mut fmt::Formatter<W>) -> fmt::Result {
         match self {
             Failure::Unknown => f.write_str("unknown"),

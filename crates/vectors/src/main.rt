@@ -17,7 +17,14 @@ fn in_force(ring: &Option<Ring>) -> Result<&Ring, Failure> {
     ring.as_ref().ok_or(Failure::Unknown)
 }
 
-// The answer to a question. A ring that is accepted comes into force.
+// A ring that is accepted comes into force.
+// Apart from reply: a function pays at entry for the size of its locals, and a ring has tables of 40 KiB.
+fn renew(ring: &mut Option<Ring>, numbers: &[i64]) -> Result<(), Failure> {
+    *ring = Some(rings_alone::ring(numbers)?);
+    Ok(())
+}
+
+// The answer to a question.
 fn reply(heap: Global, ring: &mut Option<Ring>, line: &str) -> Result<String, Failure> {
     let (word, rest) = line.split_once(' ').unwrap_or((line, ""));
     let numbers = numbers::read(heap, rest)?;
@@ -27,7 +34,7 @@ fn reply(heap: Global, ring: &mut Option<Ring>, line: &str) -> Result<String, Fa
         "round" => digits::round(heap, &numbers),
         "set" => sets::set(heap, &numbers),
         "ring" => {
-            *ring = Some(rings_alone::ring(&numbers)?);
+            renew(ring, &numbers)?;
             Ok(String::from_str(heap, "ok")?)
         }
         "product" => rings_alone::product(heap, in_force(ring)?, &numbers),
