@@ -1,7 +1,8 @@
 -- The words and the bytes of a part, one after the other.
-use Rattle.std.proofs.Common.{◌≡◌, ℕ, zero, suc, ◌+◌, ◌*◌, ◌/◌, min, ◌^◌, ◌<◌, ◌≤◌, Bool, ◌&&◌, cond, eqb, leb, ltb, List, [], ◌∷◌, map, length, get_or, Some, None, Option, option_map, sym, refl, ap, ◌∙◌, inl, inr, arith}
+use Rattle.std.proofs.Common.{◌≡◌, ℕ, zero, suc, ◌+◌, ◌*◌, ◌/◌, min, ◌^◌, ◌<◌, ◌≤◌, Bool, ◌&&◌, cond, eqb, leb, ltb, List, [], ◌∷◌, map, length, get_or, take, drop, ◌-◌, length-take, length-drop, Some, None, Option, option_map, sym, refl, ap, ◌∙◌, inl, inr, arith}
 use Rattle.std.specs.List.{range_with_len, find, list_all}
-use Rattle.std.proofs.lemmas.List.{get_or_past}
+use Rattle.std.proofs.lemmas.List.{get_or_past, get_or-take, get_or-drop}
+use Rattle.std.specs.Array.{IsFirstChunk}
 use Rattle.std.proofs.lemmas.List.FromFn.{length-map-range_with_len, get_or-map-range_with_len, fill_by_all}
 use Rattle.std.proofs.lemmas.Bool.{cases_lt}
 use Rattle.std.proofs.lemmas.Bool.Decides.{nat_tests}
@@ -28,6 +29,17 @@ word_past bytes at h =
     let c = get_or_past bytes (at + 2) 0 (omega arith) in
     let d = get_or_past bytes (at + 3) 0 (omega arith) in
     omega arith
+
+-- the first four bytes of what is left from a place on
+pub four_at : (bytes rest four : List ℕ) (at : ℕ) → rest ≡ take (length bytes - at) (drop at bytes) → IsFirstChunk rest four 4
+    → (i : ℕ) → i < 4 → get_or four i 0 ≡ get_or bytes (at + i) 0
+four_at bytes rest four at e h i l =
+    let room : i < length bytes - at =
+    omega (arith, l, h.enough, ap length e, length-take (length bytes - at) (drop at bytes), length-drop at bytes) in
+    ap (λ (xs : List ℕ). get_or xs i 0) (h.same ∙ ap (take 4) e)
+    ∙ get_or-take 4 (take (length bytes - at) (drop at bytes)) i 0 l
+    ∙ get_or-take (length bytes - at) (drop at bytes) i 0 room
+    ∙ get_or-drop at bytes i 0
 
 -- word k, where 4k is capped at the largest place
 pub word_capped : (bytes : List ℕ) (k at : ℕ) → at ≡ min (k * 4) 0xffff_ffff_ffff_ffff → length bytes < 2 ^ 64 → word_at bytes at ≡ word_at bytes (4 * k)

