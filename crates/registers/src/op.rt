@@ -1,7 +1,7 @@
 use gate::letter::Letter;
 
 // An operation on registers, by their numbers alone.
-#[derive(Clone, Copy)]
+#[derive(Clone, Copy, PartialEq, Eq, Debug)]
 pub enum Op {
     // the gate of x and y, to z
     Gate {
