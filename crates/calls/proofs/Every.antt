@@ -1,17 +1,19 @@
 -- The laws of lists of calls and of orders, for any gates.
-use Rattle.std.proofs.Common.{◌≡◌, ℕ, Bool, List, [], ◌∷◌, replicate, None, refl, ◌∙◌, subst}
+use Rattle.std.proofs.Common.{◌≡◌, ℕ, Bool, List, [], ◌∷◌, replicate, Option, Some, None, refl, ◌∙◌, subst}
 use Rattle.set.specs.declared.numbers.Numbers.{Numbers}
 use Rattle.gate.specs.declared.letter.Letter.{Letter}
 use Rattle.registers.specs.declared.op.Op.{Op}
+use Rattle.registers.specs.declared.op.Op.TheVariants.{Gate, Invert, Copy, Clear}
 use Rattle.registers.specs.Marks.{State}
 use Rattle.registers.specs.Steps.{Gates, fresh, refuse_op, done_op}
 use Rattle.registers.proofs.Accepted.{op_accepted}
 use Rattle.calls.specs.Plain.{Entries, plain_op, entered}
+use Rattle.calls.specs.Orders.{parsed}
 use Rattle.calls.specs.Calls.{Asked, placing, reading, doing, ordering, next, refuse_by}
-use Rattle.calls.specs.Gated.{OnGate, LongGate, RightGate}
+use Rattle.calls.specs.Gated.{OnGate, OnOrders, OnCalls, NoGates, LongGate, RightGate}
 use Rattle.calls.specs.Followed.{Tracks}
 use Rattle.calls.specs.Held.{HoldsUnder}
-use Rattle.calls.specs.Lists.{AllSound, EveryList}
+use Rattle.calls.specs.Lists.{AllSound, EveryList, EveryGateless}
 use Rattle.calls.specs.Both.{AllOrdersAreCalls}
 use Rattle.calls.proofs.Followed.{operates, done, done_count}
 use Rattle.calls.proofs.Held.{Kept, kept_under}
@@ -60,6 +62,37 @@ every_list gates m count R =
           (begin gates m count R (HoldsUnder m secret) (kept_under m secret some) bit_of (RightGate gates m (HoldsUnder m secret)) (right_right gates m count R (HoldsUnder m secret)))
           cs right sound;
       blind = same_shapes gates m count R;
+    }
+
+-- where no gate occurs, whatever is asked of gates is met
+module _ (P : Letter → Type 0) where
+  none_on_gate : (op : Op) → OnGate (λ l. ⊥) op → OnGate P op
+  none_on_gate (Gate l x y z) h = absurd h
+  none_on_gate (Invert x z) h = tt
+  none_on_gate (Copy x z) h = tt
+  none_on_gate (Clear z) h = tt
+
+  none_on_orders : (os : List (Option Op)) → OnOrders (λ l. ⊥) os → OnOrders P os
+  none_on_orders [] h = tt
+  none_on_orders (None ∷ os) h = tt
+  none_on_orders (Some op ∷ os) h = (none_on_gate op h.0, none_on_orders os h.1)
+
+  none_on_calls : (cs : List Asked) → NoGates cs → OnCalls P cs
+  none_on_calls [] h = tt
+  none_on_calls (placing z ws ∷ cs) h = (tt, none_on_calls cs h.1)
+  none_on_calls (reading x have ∷ cs) h = (tt, none_on_calls cs h.1)
+  none_on_calls (doing o lent ∷ cs) h = (none_on_gate o h.0, none_on_calls cs h.1)
+  none_on_calls (ordering bytes lent ∷ cs) h = (none_on_orders (parsed bytes) h.0, none_on_calls cs h.1)
+
+pub every_gateless : EveryGateless
+every_gateless gates m count R =
+    let all = every_list gates m count R in
+    record {
+      followed = λ bit_of cs none. all.followed bit_of cs (none_on_calls (LongGate gates m) cs none);
+      filled = λ bit_of cs none. all.filled bit_of cs (none_on_calls (LongGate gates m) cs none);
+      held = λ secret bit_of some cs none. all.held secret bit_of some cs (none_on_calls (RightGate gates m (HoldsUnder m secret)) cs none);
+      given = λ secret bit_of some cs none. all.given secret bit_of some cs (none_on_calls (RightGate gates m (HoldsUnder m secret)) cs none);
+      blind = λ cs others none. all.blind cs others (none_on_calls (LongGate gates m) cs none);
     }
 
 -- the file and the plain bits, where R is the count of every state

@@ -33,6 +33,10 @@ abbrev pub OnCalls : (Letter → Type 0) → List Asked → Type 0
 OnCalls P [] = Unit {0}
 OnCalls P (c ∷ cs) = OnCall P c × OnCalls P cs
 
+-- no gate is called, and none is ordered before the first order that means nothing
+abbrev pub NoGates : List Asked → Type 0
+NoGates calls = OnCalls (λ l. ⊥) calls
+
 -- from n + 1 words and n + 1 words a gate makes n + 1 words
 abbrev pub LongGate : Gates → Numbers → Letter → Type 0
 LongGate gates m l = (xs ys : List ℕ) → length xs ≡ wide m → length ys ≡ wide m → length (gates l xs ys) ≡ wide m

@@ -9,7 +9,7 @@ use Rattle.calls.specs.Plain.{Entries}
 use Rattle.calls.specs.Calls.{Asked, placing, reading, doing, ordering, next}
 use Rattle.calls.specs.Runs.{answers, left, plain_next, plain_answers, plain_left}
 use Rattle.calls.specs.Promise.{shape}
-use Rattle.calls.specs.Gated.{OnCalls, LongGate, RightGate}
+use Rattle.calls.specs.Gated.{OnCalls, NoGates, LongGate, RightGate}
 use Rattle.calls.specs.Followed.{Tracks}
 use Rattle.calls.specs.Held.{HoldsUnder, Held}
 
@@ -56,3 +56,21 @@ pub record ListsRight (gates : Gates) (m : Numbers) (count R : ℕ) : Type 0 whe
 
 abbrev pub EveryList : Type 0
 EveryList = (gates : Gates) (m : Numbers) (count R : ℕ) → ListsRight gates m count R
+
+-- the same of places, reads, inverts, copies, clears and orders of these, with nothing asked of gates: none is called
+pub record GatelessRight (gates : Gates) (m : Numbers) (count R : ℕ) : Type 0 where
+  pub followed : (bit_of : List ℕ → Bool) (calls : List Asked) → NoGates calls
+      → answers gates m count (fresh m R) calls ≡ plain_answers bit_of m R (replicate R None) calls
+  pub filled : (bit_of : List ℕ → Bool) (calls : List Asked) → NoGates calls
+      → Tracks m (left gates m count (fresh m R) calls) (plain_left bit_of m R (replicate R None) calls)
+  pub held : (secret : Poly) (bit_of : List ℕ → Bool) → 0 < m.small → (calls : List Asked) → NoGates calls
+      → AllSound gates m count (HoldsUnder m secret) bit_of (fresh m R) calls
+      → Held m secret (left gates m count (fresh m R) calls) (plain_left bit_of m R (replicate R None) calls)
+  pub given : (secret : Poly) (bit_of : List ℕ → Bool) → 0 < m.small → (calls : List Asked) → NoGates calls
+      → AllSound gates m count (HoldsUnder m secret) bit_of (fresh m R) calls
+      → AllReadRight gates m count (HoldsUnder m secret) bit_of (fresh m R) (replicate R None) calls
+  pub blind : (calls others : List Asked) → NoGates calls → map (shape m.small) calls ≡ map (shape m.small) others
+      → answers gates m count (fresh m R) calls ≡ answers gates m count (fresh m R) others
+
+abbrev pub EveryGateless : Type 0
+EveryGateless = (gates : Gates) (m : Numbers) (count R : ℕ) → GatelessRight gates m count R

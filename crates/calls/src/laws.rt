@@ -2,7 +2,7 @@ ghost use Rattle.calls.specs.Alike.{WordsDecideNothing};
 ghost use Rattle.calls.specs.Both.{AllOrdersAreCalls};
 ghost use Rattle.calls.specs.Followed.{PlainFollows};
 ghost use Rattle.calls.specs.Held.{BitsHeld};
-ghost use Rattle.calls.specs.Lists.{EveryList};
+ghost use Rattle.calls.specs.Lists.{EveryList, EveryGateless};
 
 // The machine of plain bits answers every call as the file does, and the same registers stay filled.
 pub fn plain_follows() -> u8
@@ -28,6 +28,13 @@ pub fn words_decide_nothing() -> u8
 // So it is for every list of calls on a new file.
 pub fn lists_are_right() -> u8
     ensures { EveryList }
+{
+    0
+}
+
+// Where no gate is called, it is so with nothing asked of gates.
+pub fn lists_without_gates() -> u8
+    ensures { EveryGateless }
 {
     0
 }
