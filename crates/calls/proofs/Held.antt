@@ -50,7 +50,7 @@ module _ (m : Numbers) (P : Bool → List ℕ → Type 0) (st : State) (bits : E
   full_held : (x : ℕ) → x < st.count → get_or st.marks x false ≡ true → P (the_bit (get_or bits x None)) (row_at (wide m) x st.words)
   full_held x l e = held x (the_bit (get_or bits x None)) l (full_entry x e)
 
-  either_held : (done : State) (new : Entries) (r q : Option Fault) → r ≡ q → (r ≡ None → HeldAs m P done new)
+  pub either_held : (done : State) (new : Entries) (r q : Option Fault) → r ≡ q → (r ≡ None → HeldAs m P done new)
       → HeldAs m P (either r st done) (unless_refused q bits new)
   either_held done new None None e go = go refl
   either_held done new (Some f) (Some g) e go = held

@@ -38,6 +38,9 @@ image_row image g w =
       ]
     ]
 
+pub row_between : (g f : Fault) → g ≡ f → 1 < row_of f → row_of f < 6 → (1 < row_of g) × (row_of g < 6)
+row_between g f e a b = let h = ap row_of e in (omega arith, omega arith)
+
 parts_row : (n : Numbers) (count : ℕ) (image : List ℕ) (g : Fault) → WrongParts n count image g → row_of g ≡ 6
 parts_row n count image g w =
     elim w [ inl a ↦ ap row_of a.0 | inr b ↦ elim b [ inl a ↦ ap row_of a.0 | inr b ↦ ap row_of b.0 ] ]

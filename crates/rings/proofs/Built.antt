@@ -1,5 +1,5 @@
 -- What a ring is built of: the table of roots, the root's power N, the inverse of N.
-use Rattle.std.proofs.Common.{◌≡◌, ℕ, zero, suc, ◌+◌, ◌-◌, ◌*◌, ◌/◌, ◌%◌, ◌^◌, ◌<◌, ◌≤◌, List, length, get_or, sym, ap, ◌∙◌, mod-eq_of_lt, mul-le-mul_left, pow-suc, mul-one, mul-add, arith, pow_mono, pow-add}
+use Rattle.std.proofs.Common.{◌≡◌, ℕ, zero, suc, ◌+◌, ◌-◌, ◌*◌, ◌/◌, ◌%◌, ◌^◌, ◌<◌, ◌≤◌, List, length, get_or, sym, ap, ◌∙◌, mod-lt, mod-eq_of_lt, mul-le-mul_left, pow-suc, mul-one, mul-add, arith, pow_mono, pow-add}
 use native.Mathlib.Nat.{pow-succ', mod-mod, pow-zero, mul-mul-mul_comm}
 use native.Mathlib.Nat.{mul-add-mod_self_right}
 use Rattle.rings.specs.Tables.{mirror, exponent, Powers}
@@ -38,6 +38,9 @@ module _ (Q ψ n h : ℕ) (all r : List ℕ) (e : h ≡ 2 ^ (n - 1)) (l : 2 * h 
     (filled : (i : ℕ) → i < n * h → get_or r i 0 ≡ get_or all (exponent n h i) 0) where
   pub roots_are : (i : ℕ) → i < n * h → get_or r i 0 ≡ ψ ^ exponent n h i % Q
   roots_are i b = filled i b ∙ powers (exponent n h i) (omega (arith, exponent_low n h i e b))
+
+  pub roots_low : 0 < Q → (i : ℕ) → i < n * h → get_or r i 0 < Q
+  roots_low q0 i b = omega (arith, roots_are i b, mod-lt (ψ ^ exponent n h i) q0)
 
 -- the power N from the power N / 2
 pub squared : (ψ N Q x : ℕ) → N ≡ 2 * (N / 2) → x ≡ ψ ^ (N / 2) % Q → x * x % Q ≡ ψ ^ N % Q

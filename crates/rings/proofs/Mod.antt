@@ -1,6 +1,6 @@
 -- Numbers that leave one remainder.
-use Rattle.std.proofs.Common.{◌≡◌, ℕ, ◌+◌, ◌*◌, ◌/◌, ◌%◌, ◌^◌, sym, ap, ◌∙◌, mul_assoc, mul_comm, add-mul, pow-suc, add-one}
-use native.Mathlib.Nat.{add-mod, mod-mod, div-add-mod, mul-add-mod_self_left}
+use Rattle.std.proofs.Common.{◌≡◌, ℕ, ◌+◌, ◌*◌, ◌/◌, ◌%◌, ◌^◌, ◌<◌, sym, ap, ◌∙◌, mod-eq_of_lt, mul_assoc, mul_comm, add-mul, pow-suc, add-one}
+use native.Mathlib.Nat.{add-mod, mod-mod, div-add-mod, mul-add-mod_self_left, pow-zero}
 
 -- a and b leave one remainder by Q
 abbrev pub Same : ℕ → ℕ → ℕ → Type 0
@@ -28,6 +28,9 @@ same_both Q a b c d p r =
     ∙ (ap (λ n. n % Q) (mul_comm b c) ∙ (same_times Q c d b r ∙ ap (λ n. n % Q) (mul_comm d b)))
 
 -- the powers of ψ, one after the other
+pub power_first : (ψ Q : ℕ) → 1 < Q → 1 ≡ ψ ^ 0 % Q
+power_first ψ Q h = sym (ap (λ i. i % Q) (pow-zero ψ) ∙ mod-eq_of_lt h)
+
 pub power_next : (p ψ e Q x : ℕ) → p ≡ ψ ^ e % Q → x ≡ p * ψ % Q → x ≡ ψ ^ (e + 1) % Q
 power_next p ψ e Q x h k =
     let r : Same Q (ψ ^ e % Q * ψ) (ψ ^ e * ψ) = same_times Q (ψ ^ e % Q) (ψ ^ e) ψ (mod-mod (ψ ^ e) Q) in

@@ -10,7 +10,7 @@ use Rattle.words.specs.Moduli.{ring_modulus}
 use Rattle.words.proofs.Moduli.{within_holds, power_within_parts}
 use Rattle.words.proofs.Gadgets.{power_told, within_told, within_parts, ring_told, ring_parts}
 use Rattle.set.specs.declared.numbers.Numbers.{Numbers}
-use Rattle.set.specs.Limits.{EvenFrom, even_within, Limits, WrongLimits, switch_broken, limits_broken}
+use Rattle.set.specs.Limits.{EvenFrom, even_within, Limits, WrongLimits, sizes_broken, digits_broken, weights_broken, switch_broken, limits_broken}
 
 -- refusals in turn
 pub or_first : (a b : Option Fault) (f : Fault) → a ≡ Some f → or_else a b ≡ Some f
@@ -142,6 +142,24 @@ flat_least n s =
 
 pub limits_least : (n : Numbers) → Short n → Least (WrongLimits n) (limits_broken n)
 limits_least n s = subst (λ (o : Option Fault). Least (WrongLimits n) o) (sym (limits_flat n)) (flat_least n s)
+
+-- what the groups say together
+module _ (n : Numbers) where
+  pub sizes_first : (f : Fault) → sizes_broken n ≡ Some f → limits_broken n ≡ Some f
+  unfolding limits_broken
+  sizes_first f e = or_first (sizes_broken n) _ f e
+
+  pub digits_next : (f : Fault) → sizes_broken n ≡ None → digits_broken n ≡ Some f → limits_broken n ≡ Some f
+  unfolding limits_broken
+  digits_next f a e = or_next (sizes_broken n) _ a ∙ or_first (digits_broken n) _ f e
+
+  pub weights_next : (f : Fault) → sizes_broken n ≡ None → digits_broken n ≡ None → weights_broken n ≡ Some f → limits_broken n ≡ Some f
+  unfolding limits_broken
+  weights_next f a b e = or_next (sizes_broken n) _ a ∙ or_next (digits_broken n) _ b ∙ or_first (weights_broken n) _ f e
+
+  pub switch_last : sizes_broken n ≡ None → digits_broken n ≡ None → weights_broken n ≡ None → limits_broken n ≡ switch_broken n
+  unfolding limits_broken
+  switch_last a b e = or_next (sizes_broken n) _ a ∙ or_next (digits_broken n) _ b ∙ or_next (weights_broken n) _ e
 
 -- a row that passes, and the rows after it
 pub peel : (b : Bool) (f : Fault) (r : Option Fault) → or_else (unless b f) r ≡ None → (b ≡ true) × (r ≡ None)

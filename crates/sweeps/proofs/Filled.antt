@@ -1,10 +1,21 @@
--- Words of a polynomial place by place, and the digits that are left after a step.
-use Rattle.std.proofs.Common.{◌≡◌, ℕ, zero, suc, ◌+◌, ◌-◌, ◌<◌, List, length, get_or, ℤ, refl, ap, ◌∙◌, add-one, arith}
+-- Lists that loops fill place by place, words of a polynomial among them, and the digits that are left after a step.
+use Rattle.std.proofs.Common.{◌≡◌, ℕ, zero, suc, ◌+◌, ◌-◌, ◌<◌, List, length, get_or, set, ℤ, sym, refl, ap, ◌∙◌, subst, inl, inr, add-one, arith}
+use Rattle.std.proofs.lemmas.List.{get_or-set_same, get_or-set_other}
+use Rattle.std.proofs.lemmas.Bool.{cases_eq}
 use Rattle.std.proofs.lemmas.List.FromFn.{fill_by_all}
 use Rattle.algebra.proofs.Words.{words_long, words_at}
 use Rattle.algebra.specs.Polys.{Poly}
 use Rattle.algebra.specs.Words.{word_of, words}
 use Rattle.algebra.specs.Digits.{digit_of, rest_of, digit}
+
+-- one place more holds what it should
+pub set_each : (P : ℕ → ℕ → Type 0) (xs : List ℕ) (i y : ℕ) → i < length xs → ((j : ℕ) → j < i → P j (get_or xs j 0)) → P i y
+    → (j : ℕ) → j < i + 1 → P j (get_or (set xs i y) j 0)
+set_each P xs i y l below here j m = elim (cases_eq j i) [
+  | inl e ↦ subst (λ (n : ℕ). P n (get_or (set xs i y) n 0)) (sym e)
+      (subst (λ (n : ℕ). P i n) (sym (get_or-set_same xs i y 0 l)) here)
+  | inr d ↦ subst (λ (n : ℕ). P j n) (sym (get_or-set_other xs i j y 0 d)) (below j (omega (arith, d)))
+]
 
 -- words that hold each coefficient are the words of the polynomial
 pub words_fill : (N Q : ℕ) (p : Poly) (xs : List ℕ) → length xs ≡ N → ((k : ℕ) → k < N → get_or xs k 0 ≡ word_of Q (p k)) → xs ≡ words N Q p

@@ -59,17 +59,14 @@ pub record Guessed (t Q u k : ℕ) : Type 0 where
   pub low : guess t u k * Q ≤ t
   pub high : t < guess t u k * Q + (Q + (Q + Q))
 
-guessed : (t Q u k : ℕ) → Barrett Q u k → t < Q * Q → Guessed t Q u k
-guessed t Q u k set square =
-    let bits = set.low in
-    let few = set.few in
-    let fits = set.high in
-    let below : t < 2 ^ (k - 1) * 2 ^ (k + 1) = omega (arith, set.square) in
+near_guess : (t Q u k : ℕ) → k < 32 → 2 ^ (k - 1) ≤ Q → Q < 2147483648 → u ≡ 2 ^ (k - 1) * 2 ^ (k + 1) / Q
+    → t < 2 ^ (k - 1) * 2 ^ (k + 1) → t < Q * Q → Guessed t Q u k
+near_guess t Q u k few bits fits e below square =
     let a0 : 0 < 2 ^ (k - 1) = pow_pos (k - 1) in
     let b0 : 0 < 2 ^ (k + 1) = pow_pos (k + 1) in
     let q0 : 0 < Q = omega arith in
     let r : (guess t u k * Q ≤ t) × (t < guess t u k * Q + (Q + (Q + Q))) =
-    barrett_bounds t Q u (2 ^ (k - 1)) (2 ^ (k + 1)) q0 a0 b0 bits below set.quotient in
+    barrett_bounds t Q u (2 ^ (k - 1)) (2 ^ (k + 1)) q0 a0 b0 bits below e in
     let bb : 2 ^ (k + 1) ≤ 2 ^ 32 = pow_mono {i = k + 1} {j = 32} (omega arith) in
     let na : t / 2 ^ (k - 1) * 2 ^ (k - 1) ≤ t = div-mul-le_self t (2 ^ (k - 1)) in
     let cm : 2 ^ (k - 1) * 2 ^ (k + 1) ≡ 2 ^ (k + 1) * 2 ^ (k - 1) = mul_comm (2 ^ (k - 1)) (2 ^ (k + 1)) in
@@ -79,6 +76,16 @@ guessed t Q u k set square =
     let hq : guess t u k * Q < Q * Q = omega arith in
     let hh : guess t u k < Q = lt_of_mul-lt-mul_right Q hq in
     record { top = nn; small = omega arith; low = r.0; high = r.1 }
+
+-- the same for a u of 32 bits
+pub guessed : (t Q u k : ℕ) → k < 32 → 2 ^ (k - 1) ≤ Q → Q < 2147483648 → u ≡ 2 ^ (k - 1) * 2 ^ (k + 1) / Q
+    → t < 2 ^ (k - 1) * 2 ^ (k + 1) → t < Q * Q → u < 4294967296 → Guessed t Q u k
+guessed t Q u k few bits fits e below square uw = near_guess t Q u k few bits fits e below square
+
+-- the same by the numbers as one record
+guessed_by : (t Q u k : ℕ) → Barrett Q u k → t < Q * Q → Guessed t Q u k
+guessed_by t Q u k set square =
+    near_guess t Q u k set.few set.low set.high set.quotient (omega (arith, set.square)) square
 
 -- the numbers of a ring
 barrett_of : (r : Ring) → Barrett r.modulus r.mu r.bits
@@ -92,12 +99,15 @@ barrett_of r = record {
 }
 
 pub guessed_in : (r : Ring) (t : ℕ) → t < r.modulus * r.modulus → Guessed t r.modulus r.mu r.bits
-guessed_in r t = guessed t r.modulus r.mu r.bits (barrett_of r)
+guessed_in r t = guessed_by t r.modulus r.mu r.bits (barrett_of r)
 
 -- a conditional subtraction of Q
 pub record Less (x Q r : ℕ) : Type 0 where
   pub low : x < Q → r ≡ x
   pub high : Q ≤ x → r ≡ x - Q
+
+pub not_more : (x Q r : ℕ) → Less x Q r → r ≤ x
+not_more x Q r a = elim (cases_lt x Q) [ inl l ↦ omega (arith, a.low l) | inr l ↦ omega (arith, a.high l) ]
 
 -- two of them, from x below 3 Q
 twice : (x Q r s : ℕ) → x < Q + (Q + Q) → Less x Q r → Less r Q s → (s < Q) × ((i : ℕ) × (i * Q + s ≡ x))

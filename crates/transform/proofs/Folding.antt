@@ -138,7 +138,7 @@ module _ (r : Ring) where
           (word c k l) (word a k l) (word b k l))))
 
   -- what is folded place by place is the form of c + a b, of the polynomials that the words read as
-  fold_reads : (c a b : List ℕ) → pointwise r.degree r.modulus c a b ≡ folded reads values r c a b
+  pub fold_reads : (c a b : List ℕ) → pointwise r.degree r.modulus c a b ≡ folded reads values r c a b
   fold_reads c a b =
       let own : (w : List ℕ) → poly_of r w ≡ values r (reads r w) =
       λ w. sym (values_reads r (poly_of r w) (reduced_poly r.degree Q w (some r))) ∙ ap (λ (i : List ℕ). values r i) (sym (reads_rest r w)) in

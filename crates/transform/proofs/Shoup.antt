@@ -2,10 +2,10 @@
 use Rattle.std.proofs.Common.{◌≡◌, ℕ, ◌+◌, ◌-◌, ◌*◌, ◌/◌, ◌%◌, ◌<◌, ◌≤◌, sym, ap, ◌∙◌, mul-le-mul_right, mod-eq_of_lt, mul_assoc, add-mul, mul-le-mul_left, mul-lt-mul_of_pos_right, mul-add, div-mul-le_self, arith}
 use native.Mathlib.Nat.{mod-eq-sub-mod, lt-div-mul-add, add-mul-mod_self_right}
 
-once_low : (x Q : ℕ) → x < Q → x ≡ x % Q
+pub once_low : (x Q : ℕ) → x < Q → x ≡ x % Q
 once_low x Q h = sym (mod-eq_of_lt h)
 
-once_high : (x Q : ℕ) → Q ≤ x → x < Q + Q → x - Q ≡ x % Q
+pub once_high : (x Q : ℕ) → Q ≤ x → x < Q + Q → x - Q ≡ x % Q
 once_high x Q h k =
     let l : x - Q < Q = omega arith in
     sym (mod-eq-sub-mod {n = x} {m = Q} h ∙ mod-eq_of_lt l)
@@ -19,6 +19,9 @@ reduce_high x Q l f s =
     let h : Q ≤ x = omega arith in
     let e : wrapped x Q ≡ x - Q = omega arith in
     e ∙ once_high x Q h l
+
+pub reduce_low : (x Q : ℕ) → x < Q + Q → Q < 2147483648 → 2147483648 ≤ wrapped x Q → x ≡ x % Q
+reduce_low x Q l f s = let h : x < Q = omega arith in once_low x Q h
 
 pub subtract_high : (u v Q : ℕ) → u < Q → v < Q → Q < 2147483648 → wrapped u v < 2147483648 → wrapped u v ≡ (u + (Q - v)) % Q
 subtract_high u v Q a b f s =

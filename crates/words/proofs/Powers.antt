@@ -32,6 +32,11 @@ log_of_power k few =
     let b = log_between (2 ^ k) (pow_pos k) (pow_below k 32 few) in
     log_unique (2 ^ k) (log2 (2 ^ k)) k b.0 b.1 (omega arith) (pow_below k (suc k) (omega arith))
 
+-- an exponent is less than the power
+pub below_power : (k : ℕ) → k < 2 ^ k
+below_power zero = omega arith
+below_power (suc k) = let h = below_power k in omega arith
+
 -- the logarithm that std finds, and 0 for 0
 pub log_is : (o : Option ℕ) (x : ℕ) → x < 2 ^ 32 → IfNone o (x ≡ 0) → IfSome o (λ k. 2 ^ k ≤ x) → IfSome o (λ k. x < 2 * 2 ^ k) → unwrap_or o 0 ≡ log2 x
 unfolding log2

@@ -1,7 +1,7 @@
 use Rattle.std.proofs.Common.{◌≡◌, ◌^◌, length, ℤ, ap, ◌∙◌, arith, w64, SFits, to_z, of_z, rules}
 use Rattle.std.proofs.lemmas.Int.{to_z-of_z}
 use Rattle.algebra.specs.Digits.{digit_of, rest_of}
-use Rattle.words.proofs.Filling.{digits_more, digits_end}
+use Rattle.words.proofs.Filling.{digits_more, digits_last}
 use Rattle.words.proofs.gadget.Gadget.fill.Goals as goal
 
 pub loop-place-preserved : goal.loop-place-preserved
@@ -23,4 +23,4 @@ returns-after-loop-place c =
     let v = to_z-of_z w64 c.args.number c.ranges.number in
     let e : c.loop-place.place-index ≡ length c.in-Some.firsts.now = omega arith in
     let n = rw (e, v, i) at c.loop-place.invariant in
-    rw i (digits_end c.loop-place.place-items (2 ^ c.args.self.now.width) (length c.in-Some.firsts.now) (length c.args.out.now) c.loop-place.u c.args.number (omega arith) (let h = c.in-Some.ensures.cases in omega arith) n)
+    rw i (digits_last c.loop-place.place-items (2 ^ c.args.self.now.width) (length c.in-Some.firsts.now) (length c.args.out.now) c.loop-place.u c.args.number (omega arith) (let h = c.in-Some.ensures.cases in omega arith) n)
