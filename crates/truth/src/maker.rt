@@ -278,13 +278,22 @@ fn make_rows(
     check_length(Layer::Secrets, 2, secrets.s.len(), set.dimension())?;
     check_length(Layer::Secrets, 3, samples.len(), set.row_words())?;
     check_length(Layer::Secrets, 6, rows.len(), set.row_words())?;
+    make_each_row(set, secrets.f, secrets.s, samples, rows);
+    Ok(())
+}
+
+// Makes the rows of each entry of f.
+fn make_each_row(set: &Set, f: &[i32], s: &[i32], samples: &[i32], rows: &mut [u32])
+    requires secret { length s.now ≡ set.now.within.numbers.dimension }
+    requires samples { length samples.now ≡ length f.now * (set.now.within.numbers.places * (set.now.within.numbers.dimension + 1)) }
+    requires rows { length rows.old ≡ length f.now * (set.now.within.numbers.places * (set.now.within.numbers.dimension + 1)) }
+{
     let size = entry_words(set);
     let parts = samples.chunks_exact(size).zip(rows.chunks_exact_mut(size));
-    for (entry, (samples, rows)) in secrets.f.iter().zip(parts) {
+    for (entry, (samples, rows)) in f.iter().zip(parts) {
         let message = residue(*entry as i64, set.middle());
-        make_entry_rows(set, message, secrets.s, samples, rows);
+        make_entry_rows(set, message, s, samples, rows);
     }
-    Ok(())
 }
 
 // Makes the rows of one entry: row i is of the message times C^i.
