@@ -8,7 +8,7 @@ use Rattle.registers.specs.Marks.{State}
 use Rattle.registers.specs.Steps.{Gates, fresh, refuse_op, done_op}
 use Rattle.registers.proofs.Accepted.{op_accepted}
 use Rattle.calls.specs.Plain.{Entries, plain_op, entered}
-use Rattle.calls.specs.Orders.{parsed}
+use Rattle.calls.specs.Orders.{parsed, ordered}
 use Rattle.calls.specs.Calls.{Asked, placing, reading, doing, ordering, next, refuse_by}
 use Rattle.calls.specs.Gated.{OnGate, OnOrders, OnCalls, NoGates, LongGate, RightGate}
 use Rattle.calls.specs.Followed.{Tracks}
@@ -107,14 +107,21 @@ module _ (gates : Gates) (m : Numbers) (R : ℕ) where
       → Tracked (done_op gates m s op) (entered bits op)
   on_at s bits t op long e = (done m s bits t.0 gates op long (op_accepted m s op e), done_count gates m s op ∙ t.1)
 
+agree_by : (gates : Gates) (m : Numbers) (s : State) (bits : Entries) → Tracks m s bits → (os : List (Option Op)) → OnOrders (LongGate gates m) os
+    → ((ordered State (refuse_op m) (done_op gates m) 0 s os).count ≡ (ordered Entries (plain_op s.count) entered 0 bits os).count)
+    × ((ordered State (refuse_op m) (done_op gates m) 0 s os).stop ≡ (ordered Entries (plain_op s.count) entered 0 bits os).stop)
+    × Tracks m (ordered State (refuse_op m) (done_op gates m) 0 s os).state (ordered Entries (plain_op s.count) entered 0 bits os).state
+agree_by gates m s bits t os long =
+    let h = same_ending State Entries (refuse_op m) (done_op gates m) (plain_op s.count) entered (Tracked gates m s.count) (LongGate gates m)
+    (agree_at gates m s.count) (on_at gates m s.count) 0 s bits (t, refl) os long in
+    (h.counts, h.stopped, h.related.0)
+
 pub all_orders_are_calls : AllOrdersAreCalls
 all_orders_are_calls =
     record {
       on_file = λ gates m s os. orders_are_calls State (refuse_op m) (done_op gates m) s os;
       on_lists = λ gates m count lists s os. orders_are_calls State (refuse_by m count lists) (done_op gates m) s os;
       on_bits = λ R bits os. orders_are_calls Entries (plain_op R) entered bits os;
-      agree = λ gates m s bits t os long.
-          let h = same_ending State Entries (refuse_op m) (done_op gates m) (plain_op s.count) entered (Tracked gates m s.count) (LongGate gates m)
-          (agree_at gates m s.count) (on_at gates m s.count) 0 s bits (t, refl) os long in
-          (h.counts, h.stopped, h.related.0);
+      agree = agree_by;
+      agree_gateless = λ gates m s bits t os none. agree_by gates m s bits t os (none_on_orders (LongGate gates m) os none);
     }

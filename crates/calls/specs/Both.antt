@@ -23,3 +23,8 @@ pub record AllOrdersAreCalls : Type 0 where
       → ((ordered State (refuse_op m) (done_op gates m) 0 s os).count ≡ (ordered Entries (plain_op s.count) entered 0 bits os).count)
       × ((ordered State (refuse_op m) (done_op gates m) 0 s os).stop ≡ (ordered Entries (plain_op s.count) entered 0 bits os).stop)
       × Tracks m (ordered State (refuse_op m) (done_op gates m) 0 s os).state (ordered Entries (plain_op s.count) entered 0 bits os).state
+  -- where no gate is ordered, with nothing asked of gates
+  pub agree_gateless : (gates : Gates) (m : Numbers) (s : State) (bits : Entries) → Tracks m s bits → (os : List (Option Op)) → OnOrders (λ l. ⊥) os
+      → ((ordered State (refuse_op m) (done_op gates m) 0 s os).count ≡ (ordered Entries (plain_op s.count) entered 0 bits os).count)
+      × ((ordered State (refuse_op m) (done_op gates m) 0 s os).stop ≡ (ordered Entries (plain_op s.count) entered 0 bits os).stop)
+      × Tracks m (ordered State (refuse_op m) (done_op gates m) 0 s os).state (ordered Entries (plain_op s.count) entered 0 bits os).state
